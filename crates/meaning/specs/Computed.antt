@@ -1,0 +1,143 @@
+-- Forms that can be worked out, for the figures and for code to follow. None of them is what anything means: for each, a
+-- theorem of proofs/ says that it is the meaning that Curve and Server give (docs/LAWS.md lists them).
+-- Assumes nothing.
+use mathlib.Core.Bool.{Bool, true, false, _&&_}
+use mathlib.Core.List.{List, [], _∷_, _++_}
+use Prim.Native.Nat.{ℕ, _+_, _-_, _*_, _/_, max}
+use lib.Dec.{leb, ltb, eqb}
+use Rattle.meaning.specs.Curve.{Bucket, bucketAt, valueAt, tickValue}
+use Rattle.meaning.specs.Server.{Server, reads, slower, last}
+
+-- One of two, by a test.
+unfoldable pub pick {ℓ} : {X : Type ℓ} → Bool → X → X → X
+pick true x y = x
+pick false x y = y
+
+-- The neighbours' test of normal form: from a bucket on, where the crossing before it is x/y, rates fall, and each crossing
+-- with the next bucket comes later than the one before.
+unfoldable pub crossingsRise : Bucket → ℕ → ℕ → List Bucket → Bool
+crossingsRise k x y [] = true
+crossingsRise k x y (j ∷ f) =
+    ltb (j .rate) (k .rate)
+    && ltb (x * (k .rate - j .rate)) ((j .burst - k .burst) * y)
+    && crossingsRise j (j .burst - k .burst) (k .rate - j .rate) f
+
+-- The first crossing comes after time 0.
+unfoldable pub isNormal : List Bucket → Bool
+unfolding crossingsRise
+isNormal [] = false
+isNormal (k ∷ f) = crossingsRise k 0 1 f
+
+-- The times at which a candidate is strictly below the buckets seen so far: after low/lowOver and before high/highOver
+-- (highOver 0: no end).
+pub record Ends : Type 0 where
+  pub low : ℕ
+  pub lowOver : ℕ
+  pub high : ℕ
+  pub highOver : ℕ
+
+-- Nothing seen: every positive time.
+unfoldable pub everyTime : Ends
+everyTime = record { low = 0; lowOver = 1; high = 1; highOver = 0 }
+
+-- A steeper bucket j is above c only past their crossing, which may be the later end.
+unfoldable pub afterSteeper : Bucket → Bucket → Ends → Ends
+unfolding pick
+afterSteeper c j e =
+    pick (ltb (e .low * (j .rate - c .rate)) ((c .burst - j .burst) * e .lowOver))
+    (record { low = c .burst - j .burst; lowOver = j .rate - c .rate; high = e .high; highOver = e .highOver })
+    e
+
+-- A flatter bucket j is above c only up to their crossing, which may be the earlier end.
+unfoldable pub beforeFlatter : Bucket → Bucket → Ends → Ends
+unfolding pick
+beforeFlatter c j e =
+    pick (ltb ((j .burst - c .burst) * e .highOver) (e .high * (c .rate - j .rate)))
+    (record { low = e .low; lowOver = e .lowOver; high = j .burst - c .burst; highOver = c .rate - j .rate })
+    e
+
+-- A bucket of the same rate is never above c, or always.
+unfoldable pub besideEqual : Bucket → Bucket → Ends → Ends
+unfolding pick
+besideEqual c j e =
+    pick (ltb (j .burst) (c .burst)) (record { low = e .low; lowOver = e .lowOver; high = 0; highOver = 1 }) e
+
+-- The times that are left once bucket j is seen too.
+unfoldable pub narrowed : Bucket → Bucket → Ends → Ends
+unfolding pick afterSteeper beforeFlatter besideEqual
+narrowed c j e =
+    pick (ltb (c .rate) (j .rate)) (afterSteeper c j e)
+    (pick (ltb (j .rate) (c .rate)) (beforeFlatter c j e) (besideEqual c j e))
+
+-- Some time is left.
+unfoldable pub isOpen : Ends → Bool
+isOpen e = ltb (e .low * e .highOver) (e .high * e .lowOver)
+
+-- Some time is left after every bucket of the list.
+unfoldable pub staysOpen : Bucket → Ends → List Bucket → Bool
+unfolding narrowed isOpen
+staysOpen c e [] = true
+staysOpen c e (j ∷ f) = isOpen (narrowed c j e) && staysOpen c (narrowed c j e) f
+
+-- The candidate is useful in the list.
+unfoldable pub isUseful : List Bucket → Bucket → Bool
+unfolding staysOpen everyTime
+isUseful f c = staysOpen c everyTime f
+
+-- A bucket put in its place by falling rates. (Two useful buckets of one rate are the same bucket.)
+unfoldable pub insert : Bucket → List Bucket → List Bucket
+unfolding pick
+insert k [] = k ∷ []
+insert k (j ∷ f) = pick (ltb (j .rate) (k .rate)) (k ∷ j ∷ f) (pick (ltb (k .rate) (j .rate)) (j ∷ insert k f) (j ∷ f))
+
+-- The useful ones of some buckets of a list, by falling rates.
+unfoldable pub chosen : List Bucket → List Bucket → List Bucket
+unfolding pick insert isUseful
+chosen raw [] = []
+chosen raw (k ∷ f) = pick (isUseful raw k) (insert k (chosen raw f)) (chosen raw f)
+
+-- The normal form of a list.
+unfoldable pub normal : List Bucket → List Bucket
+unfolding chosen
+normal raw = chosen raw raw
+
+-- The greatest of value(s) - R·s for a curve in normal form, the bucket before given: it is reached at the first whole tick
+-- up to the crossing with the first bucket of rate at most R, or at the one after.
+unfoldable pub excessAt : List Bucket → ℕ → ℕ → ℕ
+unfolding reads valueAt
+excessAt f rate s = max (reads f s - rate * s) (reads f (s + 1) - rate * (s + 1))
+
+unfoldable pub excessFrom : List Bucket → ℕ → Bucket → List Bucket → ℕ
+unfolding pick excessAt
+excessFrom f rate before [] = 0
+excessFrom f rate before (k ∷ g) =
+    pick (leb (k .rate) rate) (excessAt f rate ((k .burst - before .burst) / (before .rate - k .rate)))
+    (excessFrom f rate k g)
+
+unfoldable pub excess : List Bucket → ℕ → ℕ
+unfolding pick excessFrom
+excess [] rate = 0
+excess (k ∷ f) rate = pick (leb (k .rate) rate) (k .burst) (excessFrom (k ∷ f) rate k f)
+
+unfoldable pub behind : List Bucket → Server → List Bucket
+unfolding normal excess slower
+behind f s = normal (slower s f ++ record { rate = s .rate; burst = s .rate * s .latency + excess f (s .rate) } ∷ [])
+
+-- backlog is the value at 0 of the curve behind.
+unfoldable pub backlog : List Bucket → Server → ℕ
+unfolding behind valueAt
+backlog f s = tickValue (behind f s) 0
+
+-- A quotient rounded up.
+unfoldable pub roundedUp : ℕ → ℕ → ℕ
+roundedUp b r = (b + r - 1) / r
+
+-- delay is T + M/R rounded up, and 0 for the curve that carries nothing, whose value at tick 1 is 0.
+unfoldable pub delay : List Bucket → Server → ℕ
+unfolding pick excess roundedUp valueAt
+delay f s = pick (eqb (tickValue f 1) 0) 0 (s .latency + roundedUp (excess f (s .rate)) (s .rate))
+
+unfoldable pub residual : List Bucket → Server → Server
+unfolding roundedUp last
+residual cross s =
+    record { rate = s .rate - last cross .rate; latency = s .latency + roundedUp (last cross .burst) (s .rate) }

@@ -1,0 +1,100 @@
+-- Traffic curves: what a list of token buckets means, its value at a time, normal form, and the operations on curves.
+-- A time is a fraction p/q; values at p/q stand multiplied by q, so that they are whole numbers. At a tick q is 1.
+-- Assumes nothing.
+use mathlib.Core.Path.{_≡_}
+use mathlib.Core.List.{List, [], _∷_, _++_, map, List·Memᴰ}
+use Prim.Native.Nat.{ℕ, _+_, _-_, _*_, _≤_, _<_, min}
+use lib.ListN.{length, getD}
+
+infix 50 _∈_
+-- A bucket is (rate r, burst b).
+pub record Bucket : Type 0 where
+  pub rate : ℕ
+  pub burst : ℕ
+
+-- A bucket stands in a list.
+abbrev pub _∈_ : Bucket → List Bucket → Type 0
+k ∈ f = List·Memᴰ k f
+
+-- A curve is a list of numbers, rate then burst for each bucket.
+unfoldable pub buckets : List ℕ → List Bucket
+buckets [] = []
+buckets (r ∷ []) = []
+buckets (r ∷ b ∷ l) = record { rate = r; burst = b } ∷ buckets l
+
+-- The same the other way round: the numbers of a list of buckets.
+unfoldable pub flat : List Bucket → List ℕ
+flat [] = []
+flat (k ∷ f) = k .rate ∷ k .burst ∷ flat f
+
+-- A bucket's value at p/q is r·p/q + b.
+unfoldable pub bucketAt : Bucket → ℕ → ℕ → ℕ
+bucketAt k p q = k .rate * p + k .burst * q
+
+-- A curve's value at p/q is the least of its buckets' values there. (No curve is empty; an empty list has 0.)
+unfoldable pub valueAt : List Bucket → ℕ → ℕ → ℕ
+unfolding bucketAt
+valueAt [] p q = 0
+valueAt (k ∷ []) p q = bucketAt k p q
+valueAt (k ∷ j ∷ f) p q = min (bucketAt k p q) (valueAt (j ∷ f) p q)
+
+-- Its value at whole tick t is the least of r·t + b.
+abbrev pub tickValue : List Bucket → ℕ → ℕ
+tickValue f t = valueAt f t 1
+
+-- Rates fall strictly.
+unfoldable pub Falling : List Bucket → Type 0
+Falling [] = Unit {0}
+Falling (k ∷ f) = ((j : Bucket) → j ∈ f → j .rate < k .rate) × Falling f
+
+-- There is a positive time p/q (p and q whole and positive) at which the bucket lies strictly below every other bucket.
+pub record Useful (f : List Bucket) (k : Bucket) : Type 0 where
+  pub p : ℕ
+  pub q : ℕ
+  pub p-positive : 0 < p
+  pub q-positive : 0 < q
+  pub below : (j : Bucket) → j ∈ f → (j ≡ k → ⊥) → bucketAt k p q < bucketAt j p q
+
+-- Normal form: rates fall strictly, and each bucket is useful. A curve has at least one bucket.
+pub record NormalForm (f : List Bucket) : Type 0 where
+  pub some : 1 ≤ length f
+  pub falling : Falling f
+  pub useful : (k : Bucket) → k ∈ f → Useful f k
+
+-- The same value at every non-negative fraction.
+abbrev pub SameCurve : List Bucket → List Bucket → Type 0
+SameCurve f g = (p q : ℕ) → 0 < q → valueAt f p q ≡ valueAt g p q
+
+-- normalise: the list in normal form with the same value at every non-negative fraction.
+pub record NormalOf (raw f : List Bucket) : Type 0 where
+  pub form : NormalForm f
+  pub same : SameCurve raw f
+
+-- The crossing numbered k is that of bucket k-1 with bucket k, buckets counted from 1: the time p/q at which both have one value.
+unfoldable pub Crossing : List Bucket → ℕ → ℕ → ℕ → Type 0
+unfolding bucketAt
+Crossing f k p q = bucketAt (numbered (k - 1)) p q ≡ bucketAt (numbered k) p q
+  where
+    numbered : ℕ → Bucket
+    numbered i = getD f (i - 1) (record { rate = 0; burst = 0 })
+
+-- lower: normal form of both curves' buckets together.
+abbrev pub Lower : List Bucket → List Bucket → List Bucket → Type 0
+Lower f g = NormalOf (f ++ g)
+
+-- all buckets (r+r', b+b'), one from each curve
+unfoldable pub added : Bucket → Bucket → Bucket
+added k j = record { rate = k .rate + j .rate; burst = k .burst + j .burst }
+
+unfoldable pub pairs : List Bucket → List Bucket → List Bucket
+unfolding added
+pairs [] g = []
+pairs (k ∷ f) g = map (added k) g ++ pairs f g
+
+-- sum: normal form of all buckets (r+r', b+b'), one from each curve.
+abbrev pub Sum : List Bucket → List Bucket → List Bucket → Type 0
+Sum f g = NormalOf (pairs f g)
+
+-- shape: lower of the curve and the bucket (D, 0), D the link's rate.
+abbrev pub Shape : List Bucket → ℕ → List Bucket → Type 0
+Shape f d = Lower f (record { rate = d; burst = 0 } ∷ [])

@@ -1,0 +1,29 @@
+-- The operations on curves, each as a question over the lent numbers. No other outcome is right: see the laws in proofs/.
+-- Assumes nothing.
+use mathlib.Core.Path.{_≡_}
+use mathlib.Core.Logic.{_⊎_}
+use mathlib.Core.List.{List}
+use Prim.Native.Nat.{ℕ, _^_, _≤_}
+use Rattle.meaning.specs.Curve.{buckets, NormalOf, Lower, Sum, Shape, tickValue}
+use Rattle.meaning.specs.Refusal.{RANGE, Lines, _when_, _or_, rawLines, curveLines, Question, FigureOutcome}
+
+-- normalise takes a raw list; every other operation takes curves in normal form.
+unfoldable pub normalising : List ℕ → Question
+normalising raw = record { operands = rawLines raw; Answer = NormalOf (buckets raw) }
+
+unfoldable pub lowering : List ℕ → List ℕ → Question
+lowering f g = record { operands = curveLines f or curveLines g; Answer = Lower (buckets f) (buckets g) }
+
+unfoldable pub summing : List ℕ → List ℕ → Question
+summing f g = record { operands = curveLines f or curveLines g; Answer = Sum (buckets f) (buckets g) }
+
+-- The link's rate is 1 to 2^20-1.
+unfoldable pub shaping : List ℕ → ℕ → Question
+shaping f d =
+    record { operands = curveLines f or RANGE when ((d ≡ 0) ⊎ (2 ^ 20 ≤ d)); Answer = Shape (buckets f) d }
+
+-- value: the curve's value at a tick from 0 to 2^40-1.
+unfoldable pub ValueOutcome : List ℕ → ℕ → ℕ → ℕ → Type 0
+unfolding FigureOutcome
+ValueOutcome f t code figure =
+    FigureOutcome (curveLines f or RANGE when (2 ^ 40 ≤ t)) (λ v. v ≡ tickValue (buckets f) t) code figure

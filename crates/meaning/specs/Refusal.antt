@@ -1,0 +1,125 @@
+-- The refusal table, and what an operation answers and leaves behind: one outcome for every input.
+-- Assumes nothing.
+use mathlib.Core.Path.{_≡_}
+use mathlib.Core.Logic.{_⊎_}
+use mathlib.Core.List.{List, [], _++_}
+use Prim.Native.Nat.{ℕ, _%_, _^_, _≤_, _<_}
+use lib.ListN.{length, take, drop}
+use Rattle.meaning.specs.Curve.{Bucket, _∈_, buckets, flat, NormalForm}
+
+infix 45 _when_
+infixl 40 _or_
+-- The refusals by their names in the table.
+pub data Refusal : Type 0 where
+  HEADER LENGTH PAD LIST COUNT RANGE FORM UNBOUNDED LARGE ROOM : Refusal
+
+-- Their numbers. Success is 0.
+unfoldable pub number : Refusal → ℕ
+number HEADER = 1
+number LENGTH = 2
+number PAD = 3
+number LIST = 4
+number COUNT = 5
+number RANGE = 6
+number FORM = 7
+number UNBOUNDED = 8
+number LARGE = 9
+number ROOM = 10
+
+-- Lines of the table, with what each says where it holds.
+abbrev pub Lines : Type 1
+Lines = Refusal → Type 0
+
+-- The one line r, which holds when P does.
+abbrev pub _when_ : Refusal → Type 0 → Lines
+(r when P) line = (line ≡ r) × P
+
+-- Several lines; a line stands over all operands where it holds of one of them.
+abbrev pub _or_ : Lines → Lines → Lines
+(a or b) line = a line ⊎ b line
+
+-- The smallest number that applies wins, over all operands.
+pub record Wins (lines : Lines) (r : Refusal) : Type 0 where
+  pub holds : lines r
+  pub smallest : (other : Refusal) → lines other → number r ≤ number other
+
+-- No line holds.
+abbrev pub Clear : Lines → Type 0
+Clear lines = (r : Refusal) → lines r → ⊥
+
+-- r from 0 to 2^20-1, b from 0 to 2^40-1.
+pub record InRange (k : Bucket) : Type 0 where
+  pub rate-fits : k .rate < 2 ^ 20
+  pub burst-fits : k .burst < 2 ^ 40
+
+abbrev pub AllInRange : List Bucket → Type 0
+AllInRange f = (k : Bucket) → k ∈ f → InRange k
+
+-- A raw list: empty or of odd length; over 64 buckets; a rate or burst outside its range.
+abbrev pub rawLines : List ℕ → Lines
+rawLines l =
+    LIST when ((length l ≡ 0) ⊎ (length l % 2 ≡ 1))
+    or COUNT when (64 < length (buckets l))
+    or RANGE when (AllInRange (buckets l) → ⊥)
+
+-- A curve: the same, or not in normal form.
+abbrev pub curveLines : List ℕ → Lines
+curveLines l = rawLines l or FORM when (NormalForm (buckets l) → ⊥)
+
+-- The exact answer has over 64 buckets, or one of its rates or bursts is out of range.
+abbrev pub TooLarge : List Bucket → Type 0
+TooLarge f = (64 < length f) ⊎ (AllInRange f → ⊥)
+
+-- The exact answer is too large; the output list, of `room` numbers, is shorter than the answer.
+abbrev pub answerLines : (List Bucket → Type 0) → ℕ → Lines
+answerLines Answer room =
+    LARGE when ((f : List Bucket) × Answer f × TooLarge f)
+    or ROOM when ((f : List Bucket) × Answer f × (room < length (flat f)))
+
+-- A curve answer is written from the start of a lent list; numbers beyond it stay.
+unfoldable pub over : List ℕ → List ℕ → List ℕ
+over answer before = answer ++ drop (length answer) before
+
+-- A refusal returns its number and 0 for the count or figure; all lent memory stays.
+pub record Refused (lines : Lines) (before after : List ℕ) (code figure : ℕ) : Type 0 where
+  pub why : Refusal
+  pub wins : Wins lines why
+  pub code-is : code ≡ number why
+  pub figure-is : figure ≡ 0
+  pub kept : after ≡ before
+
+-- A curve is answered: no line holds, the code is 0, the count is the answer's, and the answer stands in the lent list.
+pub record Answered (lines : Lines) (Answer : List Bucket → Type 0) (before after : List ℕ) (code count : ℕ) : Type 0 where
+  pub curve : List Bucket
+  pub clear : Clear lines
+  pub right : Answer curve
+  pub code-is : code ≡ 0
+  pub count-is : count ≡ length curve
+  pub written : after ≡ over (flat curve) before
+
+-- A question that a curve answers: the lines that its operands can break, and which curve is the answer.
+pub record Question : Type 1 where
+  pub operands : Lines
+  pub Answer : List Bucket → Type 0
+
+-- What comes of it, with the lent list before and after: a refusal or the answer.
+unfoldable pub Outcome : Question → List ℕ → List ℕ → ℕ → ℕ → Type 0
+Outcome ask before after code count =
+    Refused lines before after code count ⊎ Answered lines (ask .Answer) before after code count
+  where
+    lines : Lines
+    lines = ask .operands or answerLines (ask .Answer) (length before)
+
+-- The part of a table: the `room` numbers from `at`, as far as the table has them.
+unfoldable pub part : ℕ → ℕ → List ℕ → List ℕ
+part at room table = take room (drop at table)
+
+-- The same with a part of a larger table for the output list: nothing outside the part changes.
+pub record PartOutcome (ask : Question) (at room : ℕ) (before after : List ℕ) (code count : ℕ) : Type 0 where
+  pub inside : Outcome ask (part at room before) (part at room after) code count
+  pub outside : after ≡ take at before ++ part at room after ++ drop room (drop at before)
+
+-- A question that a figure answers: a refusal, or code 0 and the figure.
+unfoldable pub FigureOutcome : Lines → (ℕ → Type 0) → ℕ → ℕ → Type 0
+FigureOutcome lines Figure code figure =
+    Refused lines [] [] code figure ⊎ (Clear lines × Figure figure × (code ≡ 0))

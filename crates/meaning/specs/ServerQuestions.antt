@@ -1,0 +1,52 @@
+-- The operations over servers, each as a question over the lent numbers.
+-- Assumes nothing.
+use mathlib.Core.Path.{_≡_}
+use mathlib.Core.Logic.{_⊎_}
+use mathlib.Core.List.{List, []}
+use Prim.Native.Nat.{ℕ, _^_, _≤_, _<_}
+use Rattle.meaning.specs.Curve.{Bucket, buckets}
+use Rattle.meaning.specs.Refusal.{RANGE, UNBOUNDED, LARGE, Lines, _when_, _or_, Clear, Refused, curveLines, Question, FigureOutcome}
+use Rattle.meaning.specs.Server.{Server, join, Behind, Backlog, Delay, Residual, last}
+
+-- R from 1 to 2^20-1, T from 0 to 2^20-1.
+pub record ServerInRange (s : Server) : Type 0 where
+  pub rate-some : 1 ≤ s .rate
+  pub rate-fits : s .rate < 2 ^ 20
+  pub latency-fits : s .latency < 2 ^ 20
+
+abbrev pub serverLines : Server → Lines
+serverLines s = RANGE when (ServerInRange s → ⊥)
+
+-- A curve and a server; the last rate above R.
+abbrev pub portLines : List ℕ → Server → Lines
+portLines f s = curveLines f or serverLines s or UNBOUNDED when (s .rate < last (buckets f) .rate)
+
+unfoldable pub passing : List ℕ → Server → Question
+passing f s = record { operands = portLines f s; Answer = Behind (buckets f) s }
+
+unfoldable pub BacklogOutcome : List ℕ → Server → ℕ → ℕ → Type 0
+unfolding FigureOutcome
+BacklogOutcome f s = FigureOutcome (portLines f s) (Backlog (buckets f) s)
+
+unfoldable pub DelayOutcome : List ℕ → Server → ℕ → ℕ → Type 0
+unfolding FigureOutcome
+DelayOutcome f s = FigureOutcome (portLines f s) (Delay (buckets f) s)
+
+-- A question that a server answers: a refusal, with (0, 0), or code 0 and the server. It is LARGE where the exact answer is out of range.
+unfoldable pub ServerOutcome : Lines → (Server → Type 0) → ℕ → Server → Type 0
+ServerOutcome operands Answer code s =
+    (Refused lines [] [] code (s .rate) × (s .latency ≡ 0)) ⊎ (Clear lines × Answer s × (code ≡ 0))
+  where
+    lines : Lines
+    lines = operands or LARGE when ((exact : Server) × Answer exact × (ServerInRange exact → ⊥))
+
+unfoldable pub JoinOutcome : Server → Server → ℕ → Server → Type 0
+unfolding ServerOutcome
+JoinOutcome s next = ServerOutcome (serverLines s or serverLines next) (λ joined. joined ≡ join s next)
+
+-- The last rate is R or more.
+unfoldable pub ResidualOutcome : List ℕ → Server → ℕ → Server → Type 0
+unfolding ServerOutcome
+ResidualOutcome cross s =
+    ServerOutcome (curveLines cross or serverLines s or UNBOUNDED when (s .rate ≤ last (buckets cross) .rate))
+    (Residual (buckets cross) s)
