@@ -3,7 +3,7 @@
 -- Assumes nothing.
 use mathlib.Core.Bool.{Bool, true, false, _&&_}
 use mathlib.Core.List.{List, [], _∷_, _++_}
-use Prim.Native.Nat.{ℕ, _+_, _-_, _*_, _/_, max}
+use Prim.Native.Nat.{ℕ, _+_, _-_, _*_, _/_, min, max}
 use lib.Dec.{leb, ltb, eqb}
 use Rattle.meaning.specs.Curve.{Bucket, bucketAt, valueAt, tickValue}
 use Rattle.meaning.specs.Server.{Server, reads, slower, last}
@@ -12,6 +12,11 @@ use Rattle.meaning.specs.Server.{Server, reads, slower, last}
 unfoldable pub pick {ℓ} : {X : Type ℓ} → Bool → X → X → X
 pick true x y = x
 pick false x y = y
+
+-- The smaller of two codes, where 0 is none.
+unfoldable pub earlier : ℕ → ℕ → ℕ
+unfolding pick
+earlier a b = pick (eqb a 0) b (pick (eqb b 0) a (min a b))
 
 -- The neighbours' test of normal form: from a bucket on, where the crossing before it is x/y, rates fall, and each crossing
 -- with the next bucket comes later than the one before.

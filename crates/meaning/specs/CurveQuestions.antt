@@ -24,6 +24,5 @@ shaping f d =
 
 -- value: the curve's value at a tick from 0 to 2^40-1.
 unfoldable pub ValueOutcome : List ℕ → ℕ → ℕ → ℕ → Type 0
-unfolding FigureOutcome
 ValueOutcome f t code figure =
     FigureOutcome (curveLines f or RANGE when (2 ^ 40 ≤ t)) (λ v. v ≡ tickValue (buckets f) t) code figure

@@ -47,6 +47,11 @@ pub record Wins (lines : Lines) (r : Refusal) : Type 0 where
 abbrev pub Clear : Lines → Type 0
 Clear lines = (r : Refusal) → lines r → ⊥
 
+-- The code of a test for refusals: 0 where no line holds, else the number that wins.
+pub data Verdict (lines : Lines) (code : ℕ) : Type 0 where
+  accepted : Clear lines → code ≡ 0 → Verdict lines code
+  rejected : (r : Refusal) → Wins lines r → code ≡ number r → Verdict lines code
+
 -- r from 0 to 2^20-1, b from 0 to 2^40-1.
 pub record InRange (k : Bucket) : Type 0 where
   pub rate-fits : k .rate < 2 ^ 20
@@ -102,13 +107,15 @@ pub record Question : Type 1 where
   pub operands : Lines
   pub Answer : List Bucket → Type 0
 
+-- Every line of a question, the answer's among them, for an output list of `room` numbers.
+abbrev pub allLines : Question → ℕ → Lines
+allLines ask room = ask .operands or answerLines (ask .Answer) room
+
 -- What comes of it, with the lent list before and after: a refusal or the answer.
-unfoldable pub Outcome : Question → List ℕ → List ℕ → ℕ → ℕ → Type 0
-Outcome ask before after code count =
-    Refused lines before after code count ⊎ Answered lines (ask .Answer) before after code count
-  where
-    lines : Lines
-    lines = ask .operands or answerLines (ask .Answer) (length before)
+pub data Outcome (ask : Question) (before after : List ℕ) (code count : ℕ) : Type 0 where
+  refused : Refused (allLines ask (length before)) before after code count → Outcome ask before after code count
+  answered :
+      Answered (allLines ask (length before)) (ask .Answer) before after code count → Outcome ask before after code count
 
 -- The part of a table: the `room` numbers from `at`, as far as the table has them.
 unfoldable pub part : ℕ → ℕ → List ℕ → List ℕ
@@ -120,6 +127,6 @@ pub record PartOutcome (ask : Question) (at room : ℕ) (before after : List ℕ
   pub outside : after ≡ take at before ++ part at room after ++ drop room (drop at before)
 
 -- A question that a figure answers: a refusal, or code 0 and the figure.
-unfoldable pub FigureOutcome : Lines → (ℕ → Type 0) → ℕ → ℕ → Type 0
-FigureOutcome lines Figure code figure =
-    Refused lines [] [] code figure ⊎ (Clear lines × Figure figure × (code ≡ 0))
+pub data FigureOutcome (lines : Lines) (Figure : ℕ → Type 0) (code figure : ℕ) : Type 0 where
+  refused : Refused lines [] [] code figure → FigureOutcome lines Figure code figure
+  answered : Clear lines → code ≡ 0 → Figure figure → FigureOutcome lines Figure code figure

@@ -25,28 +25,26 @@ unfoldable pub passing : List ℕ → Server → Question
 passing f s = record { operands = portLines f s; Answer = Behind (buckets f) s }
 
 unfoldable pub BacklogOutcome : List ℕ → Server → ℕ → ℕ → Type 0
-unfolding FigureOutcome
 BacklogOutcome f s = FigureOutcome (portLines f s) (Backlog (buckets f) s)
 
 unfoldable pub DelayOutcome : List ℕ → Server → ℕ → ℕ → Type 0
-unfolding FigureOutcome
 DelayOutcome f s = FigureOutcome (portLines f s) (Delay (buckets f) s)
 
--- A question that a server answers: a refusal, with (0, 0), or code 0 and the server. It is LARGE where the exact answer is out of range.
-unfoldable pub ServerOutcome : Lines → (Server → Type 0) → ℕ → Server → Type 0
-ServerOutcome operands Answer code s =
-    (Refused lines [] [] code (s .rate) × (s .latency ≡ 0)) ⊎ (Clear lines × Answer s × (code ≡ 0))
-  where
-    lines : Lines
-    lines = operands or LARGE when ((exact : Server) × Answer exact × (ServerInRange exact → ⊥))
+-- The lines of a question that a server answers: LARGE where the exact answer is out of range.
+abbrev pub withLarge : Lines → (Server → Type 0) → Lines
+withLarge operands Answer = operands or LARGE when ((exact : Server) × Answer exact × (ServerInRange exact → ⊥))
+
+-- What comes of it: a refusal, with the server (0, 0), or code 0 and the server.
+pub data ServerOutcome (operands : Lines) (Answer : Server → Type 0) (code : ℕ) (s : Server) : Type 0 where
+  refused :
+      Refused (withLarge operands Answer) [] [] code (s .rate) → s .latency ≡ 0 → ServerOutcome operands Answer code s
+  answered : Clear (withLarge operands Answer) → code ≡ 0 → Answer s → ServerOutcome operands Answer code s
 
 unfoldable pub JoinOutcome : Server → Server → ℕ → Server → Type 0
-unfolding ServerOutcome
 JoinOutcome s next = ServerOutcome (serverLines s or serverLines next) (λ joined. joined ≡ join s next)
 
 -- The last rate is R or more.
 unfoldable pub ResidualOutcome : List ℕ → Server → ℕ → Server → Type 0
-unfolding ServerOutcome
 ResidualOutcome cross s =
     ServerOutcome (curveLines cross or serverLines s or UNBOUNDED when (s .rate ≤ last (buckets cross) .rate))
     (Residual (buckets cross) s)
