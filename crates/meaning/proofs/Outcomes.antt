@@ -2,18 +2,19 @@
 -- figure and the same list afterwards. And how an outcome is come by: tests for refusals put together, the smallest number
 -- winning over all operands, then LARGE, then ROOM, then the answer.
 -- Assumes nothing.
-use mathlib.Core.Path.{_≡_, refl, sym, _∙_, ap, subst}
+use mathlib.Core.Path.{_≡_, refl, sym, _∙_, ap, subst, subst₂}
 use mathlib.Core.Logic.{_⊎_, inl, inr}
 use mathlib.Core.Bool.{Bool, true, false}
-use mathlib.Core.List.{List, [], _++_}
+use mathlib.Core.List.{List, _++_, append-assoc, append-nil}
 use Prim.Native.Nat.{ℕ, suc, _≤_, _<_, min}
 use native.Mathlib.Nat.{le-trans, le-of-eq, le-antisymm, le-refl, min-eq-left, min-eq-right, le-of-lt}
 use native.Mathlib.Omega.{arith}
-use lib.ListN.{length, take, drop}
+use lib.ListN.{length, take, drop, take-append-drop}
+use lib.Seq.{take-length, drop-length}
 use lib.Dec.{eqb, lit≤}
 use borrow.Author.Tests.{eqb-true, eqb-false}
 use Rattle.meaning.specs.Curve.{Bucket, flat}
-use Rattle.meaning.specs.Refusal.{Refusal, HEADER, LENGTH, PAD, LIST, COUNT, RANGE, FORM, UNBOUNDED, LARGE, ROOM, number, Lines, _when_, _or_, Wins, Clear, Verdict, accepted, rejected, TooLarge, answerLines, over, Refused, Answered, Question, Outcome, part, PartOutcome, FigureOutcome}
+use Rattle.meaning.specs.Refusal.{Refusal, HEADER, LENGTH, PAD, LIST, COUNT, RANGE, FORM, UNBOUNDED, LARGE, ROOM, number, Lines, _when_, _or_, Wins, Clear, Verdict, accepted, rejected, TooLarge, answerLines, over, Refused, Answered, Question, allLines, Outcome, part, PartOutcome, FigureOutcome}
 use Rattle.meaning.specs.Computed.{pick, earlier}
 use Rattle.meaning.proofs.Order.{le-or-lt}
 
@@ -262,3 +263,81 @@ module _ (ask : Question) (before : List ℕ) where
           has-room h =
               let e : length (flat (h .0)) ≡ length (flat f) = ap (λ (g : List Bucket). length (flat g)) (one (h .0) f (h .1) right) in
               omega (arith, h .2)
+
+-- ---- One question in place of another, and the whole list as a part of itself.
+
+module _ {X Y : List Bucket → Type 0} (to : (f : List Bucket) → X f → Y f) {room : ℕ} where
+  same-answers : (r : Refusal) → answerLines X room r → answerLines Y room r
+  same-answers r (inl h) = inl (h .0, (h .1 .0, to (h .1 .0) (h .1 .1), h .1 .2))
+  same-answers r (inr h) = inr (h .0, (h .1 .0, to (h .1 .0) (h .1 .1), h .1 .2))
+
+-- Two questions with the same answers, neither of them refused by an operand, have the same outcome.
+module _
+  (ask other : Question)
+  (clear : Clear (ask .operands))
+  (clear′ : Clear (other .operands))
+  (to : (f : List Bucket) → ask .Answer f → other .Answer f)
+  (back : (f : List Bucket) → other .Answer f → ask .Answer f)
+  where
+  lines-to : {room : ℕ} (r : Refusal) → allLines ask room r → allLines other room r
+  lines-to r (inl h) = absurd (clear r h)
+  lines-to r (inr h) = inr (same-answers to r h)
+
+  lines-back : {room : ℕ} (r : Refusal) → allLines other room r → allLines ask room r
+  lines-back r (inl h) = absurd (clear′ r h)
+  lines-back r (inr h) = inr (same-answers back r h)
+
+  pub asked-so : {before after : List ℕ} {code count : ℕ} → Outcome ask before after code count → Outcome other before after code count
+  asked-so (Outcome.refused v) =
+      Outcome.refused
+      (record {
+        why = v .why;
+        wins =
+          record {
+            holds = lines-to (v .why) (v .wins .holds);
+            smallest = λ r h. v .wins .smallest r (lines-back r h)
+          };
+        code-is = v .code-is;
+        figure-is = v .figure-is;
+        kept = v .kept
+      })
+  asked-so (Outcome.answered v) =
+      Outcome.answered
+      (record {
+        curve = v .curve;
+        clear = λ r h. v .clear r (lines-back r h);
+        right = to (v .curve) (v .right);
+        code-is = v .code-is;
+        count-is = v .count-is;
+        written = v .written
+      })
+
+  pub asked-so-in-part :
+    {at room : ℕ} {before after : List ℕ} {code count : ℕ}
+    → PartOutcome ask at room before after code count → PartOutcome other at room before after code count
+  asked-so-in-part v = record { inside = asked-so (v .inside); outside = v .outside }
+
+-- A table is what stands before a part, the part, and what stands after it.
+pub three-parts : (at room : ℕ) (table : List ℕ) → table ≡ take at table ++ part at room table ++ drop room (drop at table)
+unfolding part
+three-parts at room table =
+    sym (take-append-drop at table)
+    ∙ ap (λ (l : List ℕ). take at table ++ l) (sym (take-append-drop room (drop at table)))
+    ∙ sym (append-assoc (take at table) (take room (drop at table)) (drop room (drop at table)))
+
+-- An operand is refused: the whole table stays.
+pub refuse-in-part :
+  (ask : Question) (at room : ℕ) (before : List ℕ) {code : ℕ}
+  → UpTo 8 (ask .operands) → 1 ≤ code → Verdict (ask .operands) code → PartOutcome ask at room before before code 0
+refuse-in-part ask at room before h some v =
+    record { inside = refuse ask (part at room before) h some v; outside = three-parts at room before }
+
+-- The whole list is a part of itself.
+pub whole-list :
+  (ask : Question) {before after : List ℕ} {code count : ℕ}
+  → PartOutcome ask 0 (length before) before after code count → Outcome ask before after code count
+unfolding part
+whole-list ask {before} {after} {code} {count} v =
+    subst₂ (λ (b a : List ℕ). Outcome ask b a code count) (take-length before)
+    (sym (v .outside ∙ ap (λ (l : List ℕ). take (length before) after ++ l) (drop-length before) ∙ append-nil (take (length before) after)))
+    (v .inside)
