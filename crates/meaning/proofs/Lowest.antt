@@ -46,6 +46,13 @@ pub bucket-later : (k : Bucket) (n p q : ℕ) → bucketAt k (n * p + 1) (n * q)
 unfolding bucketAt
 bucket-later k n p q = omega arith
 
+-- buckets of the same rate that meet are the same
+pub meet-same :
+    {k j : Bucket} (p q : ℕ) → 0 < q → k .rate ≡ j .rate → bucketAt k p q ≡ bucketAt j p q → k ≡ j
+unfolding bucketAt
+meet-same p q hq rates e =
+    same-bucket rates (eq-of-mul-eq-mul-right q hq _ _ (omega (arith, ap (λ (r : ℕ). r * p) rates)))
+
 -- what is not above at (N·p + 1)/(N·q) is not above at p/q
 later-not-above :
     (k j : Bucket) (n p q : ℕ) → j .rate < n → bucketAt k (n * p + 1) (n * q) ≤ bucketAt j (n * p + 1) (n * q)
@@ -60,12 +67,12 @@ later-not-above k j n p q h l =
 later-same :
     (k j : Bucket) (n p q : ℕ) → 0 < q → k .rate < n → j .rate < n
     → bucketAt k (n * p + 1) (n * q) ≡ bucketAt j (n * p + 1) (n * q) → k ≡ j
-unfolding bucketAt
 later-same k j n p q hq hk hj e =
     let down = later-not-above k j n p q hj (le-of-eq e) in
     let up = later-not-above j k n p q hk (le-of-eq (sym e)) in
-    let rates : k .rate ≡ j .rate = omega (arith, ap (λ (v : ℕ). n * v) (le-antisymm down up)) in
-    same-bucket rates (eq-of-mul-eq-mul-right q hq _ _ (omega (arith, ap (λ (r : ℕ). r * p) rates)))
+    let now = le-antisymm down up in
+    let scaled = ap (λ (v : ℕ). n * v) now in
+    meet-same p q hq (omega (arith, bucket-later k n p q, bucket-later j n p q)) now
 
 -- so other buckets do not meet there
 later-apart :
