@@ -273,49 +273,49 @@ module _ {X Y : List Bucket → Type 0} (to : (f : List Bucket) → X f → Y f)
 
 -- Two questions with the same answers, neither of them refused by an operand, have the same outcome.
 module _
-  (ask other : Question)
-  (clear : Clear (ask .operands))
-  (clear′ : Clear (other .operands))
-  (to : (f : List Bucket) → ask .Answer f → other .Answer f)
-  (back : (f : List Bucket) → other .Answer f → ask .Answer f)
+    (ask other : Question)
+    (clear : Clear (ask .operands))
+    (clear′ : Clear (other .operands))
+    (to : (f : List Bucket) → ask .Answer f → other .Answer f)
+    (back : (f : List Bucket) → other .Answer f → ask .Answer f)
   where
-  lines-to : {room : ℕ} (r : Refusal) → allLines ask room r → allLines other room r
-  lines-to r (inl h) = absurd (clear r h)
-  lines-to r (inr h) = inr (same-answers to r h)
+    lines-to : {room : ℕ} (r : Refusal) → allLines ask room r → allLines other room r
+    lines-to r (inl h) = absurd (clear r h)
+    lines-to r (inr h) = inr (same-answers to r h)
 
-  lines-back : {room : ℕ} (r : Refusal) → allLines other room r → allLines ask room r
-  lines-back r (inl h) = absurd (clear′ r h)
-  lines-back r (inr h) = inr (same-answers back r h)
+    lines-back : {room : ℕ} (r : Refusal) → allLines other room r → allLines ask room r
+    lines-back r (inl h) = absurd (clear′ r h)
+    lines-back r (inr h) = inr (same-answers back r h)
 
-  pub asked-so : {before after : List ℕ} {code count : ℕ} → Outcome ask before after code count → Outcome other before after code count
-  asked-so (Outcome.refused v) =
-      Outcome.refused
-      (record {
-        why = v .why;
-        wins =
-          record {
-            holds = lines-to (v .why) (v .wins .holds);
-            smallest = λ r h. v .wins .smallest r (lines-back r h)
-          };
-        code-is = v .code-is;
-        figure-is = v .figure-is;
-        kept = v .kept
-      })
-  asked-so (Outcome.answered v) =
-      Outcome.answered
-      (record {
-        curve = v .curve;
-        clear = λ r h. v .clear r (lines-back r h);
-        right = to (v .curve) (v .right);
-        code-is = v .code-is;
-        count-is = v .count-is;
-        written = v .written
-      })
+    pub asked-so : {before after : List ℕ} {code count : ℕ} → Outcome ask before after code count → Outcome other before after code count
+    asked-so (Outcome.refused v) =
+        Outcome.refused
+        (record {
+          why = v .why;
+          wins =
+              record {
+                holds = lines-to (v .why) (v .wins .holds);
+                smallest = λ r h. v .wins .smallest r (lines-back r h);
+              };
+          code-is = v .code-is;
+          figure-is = v .figure-is;
+          kept = v .kept;
+        })
+    asked-so (Outcome.answered v) =
+        Outcome.answered
+        (record {
+          curve = v .curve;
+          clear = λ r h. v .clear r (lines-back r h);
+          right = to (v .curve) (v .right);
+          code-is = v .code-is;
+          count-is = v .count-is;
+          written = v .written;
+        })
 
-  pub asked-so-in-part :
-    {at room : ℕ} {before after : List ℕ} {code count : ℕ}
-    → PartOutcome ask at room before after code count → PartOutcome other at room before after code count
-  asked-so-in-part v = record { inside = asked-so (v .inside); outside = v .outside }
+    pub asked-so-in-part :
+        {at room : ℕ} {before after : List ℕ} {code count : ℕ}
+        → PartOutcome ask at room before after code count → PartOutcome other at room before after code count
+    asked-so-in-part v = record { inside = asked-so (v .inside); outside = v .outside }
 
 -- A table is what stands before a part, the part, and what stands after it.
 pub three-parts : (at room : ℕ) (table : List ℕ) → table ≡ take at table ++ part at room table ++ drop room (drop at table)
@@ -327,15 +327,15 @@ three-parts at room table =
 
 -- An operand is refused: the whole table stays.
 pub refuse-in-part :
-  (ask : Question) (at room : ℕ) (before : List ℕ) {code : ℕ}
-  → UpTo 8 (ask .operands) → 1 ≤ code → Verdict (ask .operands) code → PartOutcome ask at room before before code 0
+    (ask : Question) (at room : ℕ) (before : List ℕ) {code : ℕ}
+    → UpTo 8 (ask .operands) → 1 ≤ code → Verdict (ask .operands) code → PartOutcome ask at room before before code 0
 refuse-in-part ask at room before h some v =
     record { inside = refuse ask (part at room before) h some v; outside = three-parts at room before }
 
 -- The whole list is a part of itself.
 pub whole-list :
-  (ask : Question) {before after : List ℕ} {code count : ℕ}
-  → PartOutcome ask 0 (length before) before after code count → Outcome ask before after code count
+    (ask : Question) {before after : List ℕ} {code count : ℕ}
+    → PartOutcome ask 0 (length before) before after code count → Outcome ask before after code count
 unfolding part
 whole-list ask {before} {after} {code} {count} v =
     subst₂ (λ (b a : List ℕ). Outcome ask b a code count) (take-length before)

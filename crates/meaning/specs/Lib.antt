@@ -5,5 +5,5 @@ pub mod Refusal
 pub mod CurveQuestions
 pub mod ServerQuestions
 pub mod Profile
-pub mod Route
 pub mod Computed
+pub mod Route

@@ -1,1 +1,121 @@
--- Not written yet.
+-- The route program: its whole output as text, from its whole input as bytes.
+-- Assumes nothing.
+use mathlib.Core.Path.{_≡_}
+use mathlib.Core.Logic.{_≢_}
+use mathlib.Core.Option.{Option, none, some}
+use mathlib.Core.List.{List, [], _∷_, _++_}
+use Prim.Native.Nat.{ℕ, zero, suc, _+_, _/_, _%_, _<_}
+use lib.Dec.{ltb}
+use lib.ListN.{length, take, drop}
+use Rattle.meaning.specs.Curve.{Bucket, flat}
+use Rattle.meaning.specs.Server.{Server, join, Behind, Backlog, Delay}
+use Rattle.meaning.specs.Refusal.{Refusal, HEADER, COUNT, LARGE, number, Lines, _when_, _or_, Wins, Clear, TooLarge}
+use Rattle.meaning.specs.ServerQuestions.{serverLines, portLines, withLarge}
+use Rattle.meaning.specs.Profile.{byteCount, field, profileOf, fileLines, bucketsOf, numbersOf}
+use Rattle.meaning.specs.Computed.{pick}
+
+-- Profiles stand back to back, each taking the bytes its header requires.
+unfoldable pub firstFile : List ℕ → List ℕ
+firstFile input = take (byteCount (profileOf input)) input
+
+unfoldable pub afterFirst : List ℕ → List ℕ
+afterFirst input = drop (byteCount (profileOf input)) input
+
+-- Where a kind is due: a curve where a server is due, or the reverse, is 1, and so is input that ends there; one cut short is 2.
+abbrev pub dueLines : ℕ → List ℕ → Lines
+dueLines kind input = HEADER when (field input 4 4 ≢ kind) or fileLines (firstFile input)
+
+-- A server is joined with those before it.
+abbrev pub joinLines : Option Server → Server → Lines
+joinLines none s = λ _. ⊥
+joinLines (some before) s = withLarge (serverLines before or serverLines s) (λ joined. joined ≡ join before s)
+
+abbrev pub joinedWith : Option Server → Server → Server
+joinedWith none s = s
+joinedWith (some before) s = join before s
+
+-- At each server, reading, joining with those before it, backlog, delay and behind all count.
+abbrev pub hopLines : List Bucket → Option Server → List ℕ → Lines
+hopLines f before input =
+    dueLines 2 input or portLines (flat f) s or joinLines before s
+    or LARGE when ((g : List Bucket) × Behind f s g × TooLarge g)
+  where
+    s : Server
+    s = numbersOf (profileOf input)
+
+-- Backlog and delay: of a hop, or of the route.
+pub record Figures : Type 0 where
+  pub backlog : ℕ
+  pub delay : ℕ
+
+pub record FiguresOf (f : List Bucket) (s : Server) (x : Figures) : Type 0 where
+  pub backlog-is : Backlog f s (x .backlog)
+  pub delay-is : Delay f s (x .delay)
+
+-- What is reported: each hop and the route, or a refusal and which profile is refused.
+pub data Report : Type 0 where
+  passed : List Figures → Figures → Report
+  refusedAt : Refusal → ℕ → Report
+
+-- From a place in the input on: the first curve, the hops so far, their servers joined, the curve from the hop before, the
+-- bytes that are left, and the report.
+pub data Onward (first : List Bucket) : List Figures → Option Server → List Bucket → List ℕ → Report → Type 0 where
+  -- The input ends: the joined server over the first curve.
+  ends :
+      {hops : List Figures} {joined : Server} {f : List Bucket} (route : Figures)
+      → FiguresOf first joined route → Onward first hops (some joined) f [] (passed hops route)
+  -- Bytes after 32 servers are 5 at 34.
+  bytes-left :
+      {hops : List Figures} {before : Option Server} {f : List Bucket} {input : List ℕ}
+      → length hops ≡ 32 → input ≢ [] → Onward first hops before f input (refusedAt COUNT 34)
+  -- A server is refused; the curve is profile 1.
+  stops :
+      {hops : List Figures} {before : Option Server} {f : List Bucket} {input : List ℕ} (r : Refusal)
+      → length hops < 32 → (input ≡ [] → before ≡ none) → Wins (hopLines f before input) r
+      → Onward first hops before f input (refusedAt r (length hops + 2))
+  -- A hop, and on with the curve behind it.
+  hop :
+      {hops : List Figures} {before : Option Server} {f : List Bucket} {input : List ℕ} {report : Report} (here : Figures) (g : List Bucket)
+      → length hops < 32 → (input ≡ [] → before ≡ none) → Clear (hopLines f before input)
+      → FiguresOf f (numbersOf (profileOf input)) here → Behind f (numbersOf (profileOf input)) g
+      → Onward first (hops ++ here ∷ []) (some (joinedWith before (numbersOf (profileOf input)))) g (afterFirst input) report
+      → Onward first hops before f input report
+
+-- One curve profile, then 1 to 32 server profiles. The earliest profile refused is the one named.
+pub data Reported (input : List ℕ) (report : Report) : Type 0 where
+  no-curve : (r : Refusal) → Wins (dueLines 1 input) r → report ≡ refusedAt r 1 → Reported input report
+  from-curve :
+      Clear (dueLines 1 input)
+      → Onward (bucketsOf (profileOf input)) [] none (bucketsOf (profileOf input)) (afterFirst input) report
+      → Reported input report
+
+-- A number in decimal, `most` digits at most; no number of 64 bits has more than 20.
+unfoldable pub digits : ℕ → ℕ → List ℕ
+unfolding pick
+digits zero n = []
+digits (suc most) n = pick (ltb n 10) ((48 + n) ∷ []) (digits most (n / 10) ++ (48 + n % 10) ∷ [])
+
+-- The words of a line: a space (32) before each number, a line feed (10) at its end.
+unfoldable pub numbered : List ℕ → List ℕ
+unfolding digits
+numbered [] = 10 ∷ []
+numbered (n ∷ l) = 32 ∷ digits 20 n ++ numbered l
+
+-- `hop N X Y` for each hop from N on
+unfoldable pub hopTexts : ℕ → List Figures → List ℕ
+unfolding numbered
+hopTexts n [] = []
+hopTexts n (x ∷ l) = 104 ∷ 111 ∷ 112 ∷ numbered (n ∷ x .backlog ∷ x .delay ∷ []) ++ hopTexts (n + 1) l
+
+-- The hops, then `route X Y`; or one line only, `refused C at K`.
+unfoldable pub text : Report → List ℕ
+unfolding hopTexts numbered digits number
+text (passed hops x) = hopTexts 1 hops ++ 114 ∷ 111 ∷ 117 ∷ 116 ∷ 101 ∷ numbered (x .backlog ∷ x .delay ∷ [])
+text (refusedAt r k) =
+    114 ∷ 101 ∷ 102 ∷ 117 ∷ 115 ∷ 101 ∷ 100 ∷ 32 ∷ digits 20 (number r) ++ 32 ∷ 97 ∷ 116 ∷ numbered (k ∷ [])
+
+-- The program's output.
+pub record Route (input output : List ℕ) : Type 0 where
+  pub report : Report
+  pub reported : Reported input report
+  pub output-is : output ≡ text report
