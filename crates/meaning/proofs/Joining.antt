@@ -1,6 +1,6 @@
 -- Servers joined and servers left over: the joined server serves by each tick the least, over all ways to split the tick,
 -- of what the first serves by the first part and the next by the rest; the order of joining does not matter; a quotient
--- rounded up is the smallest number that suffices; and the server left beside a cross curve never serves what is not there.
+-- rounded up is the smallest number that suffices; and what the server left beside a cross curve serves, with that curve, the server had.
 -- Assumes nothing.
 use mathlib.Core.Path.{_≡_, refl, sym, _∙_}
 use mathlib.Core.Logic.{_⊎_, inl, inr}
@@ -26,7 +26,7 @@ pub record Convolution (a b : Instant → ℕ) (t n : ℕ) : Type 0 where
   pub reached : n ≡ a at + b (t - at)
   pub least : (y : Instant) → y ≤ t → n ≤ a y + b (t - y)
 
--- no rate above either of two serves more in a time than the two in the parts of it
+-- a rate at most each of two serves no more in a time than the two in its parts
 slower-serves-less : {m r r' u : ℕ} (v w : ℕ) → m ≤ r → m ≤ r' → u ≤ v + w → m * u ≤ r * v + r' * w
 slower-serves-less {m} v w h h' fits =
     omega (arith, mul-le-mul-left m fits, mul-le-mul-right v h, mul-le-mul-right w h')
@@ -42,10 +42,13 @@ join-convolution s next t = split (le-or-lt (s .rate) (next .rate))
   where
     every :
         (y : ℕ) → y ≤ t
-        → min (s .rate) (next .rate) * (t - (s .latency + next .latency)) ≤ s .rate * (y - s .latency) + next .rate * (t - y - next .latency)
-    every y h = slower-serves-less (y - s .latency) (t - y - next .latency) (min-le-left _ _) (min-le-right _ _) (omega arith)
+        → min (s .rate) (next .rate) * (t - (s .latency + next .latency))
+        ≤ s .rate * (y - s .latency) + next .rate * (t - y - next .latency)
+    every y h =
+        slower-serves-less (y - s .latency) (t - y - next .latency) (min-le-left _ _) (min-le-right _ _) (omega arith)
 
-    split : (s .rate ≤ next .rate) ⊎ (next .rate < s .rate) → Convolution (served s) (served next) t (served (join s next) t)
+    split :
+        (s .rate ≤ next .rate) ⊎ (next .rate < s .rate) → Convolution (served s) (served next) t (served (join s next) t)
     split (inl h) =
         record {
           at = t - next .latency;
@@ -79,7 +82,10 @@ smallest-unique a b = le-antisymm (a .smallest _ (b .suffices)) (b .smallest _ (
 pub rounded-up-is : (b r : ℕ) → 1 ≤ r → Smallest (λ x. b ≤ r * x) (roundedUp b r)
 unfolding roundedUp
 rounded-up-is b r h =
-    record { suffices = omega (arith, lt-div-mul-add {a = b + r - 1} h); smallest = λ m enough. omega (arith, div-lt-iff-lt-mul {x = b + r - 1} {y = m + 1} h .1 (omega arith)) }
+    record {
+      suffices = omega (arith, lt-div-mul-add {a = b + r - 1} h);
+      smallest = λ m enough. omega (arith, div-lt-iff-lt-mul {x = b + r - 1} {y = m + 1} h .1 (omega arith));
+    }
 
 -- a curve's last bucket is one of its buckets
 pub last-inside : (f : List Bucket) → 1 ≤ length f → last f ∈ f
@@ -95,10 +101,13 @@ residual-is cross s h =
     record { rate-is = refl; quotient = _; rounded-up = rounded-up-is (last cross .burst) (s .rate) h; latency-is = refl }
 
 -- one server is left beside a cross curve
-pub residual-unique : {cross : List Bucket} {s left other : Server} → Residual cross s left → Residual cross s other → left ≡ other
-residual-unique a b = same-server (a .rate-is ∙ sym (b .rate-is)) (omega (arith, smallest-unique (a .rounded-up) (b .rounded-up)))
+pub residual-unique :
+    {cross : List Bucket} {s left other : Server} → Residual cross s left → Residual cross s other → left ≡ other
+residual-unique a b =
+    same-server (a .rate-is ∙ sym (b .rate-is)) (omega (arith, smallest-unique (a .rounded-up) (b .rounded-up)))
 
--- where rates `rest` and r' make up r, and r serves a burst b in time x, r serves in x + u what `rest` and the bucket (r', b) take in u
+-- where rates `rest` and r' make up r, and r serves a burst b in time x, r serves in x + u what `rest` and the bucket (r', b)
+-- take in u
 shares :
     {r y : ℕ} (rest r' b x u : ℕ) → r ≡ rest + r' → y ≡ x + u → b ≤ r * x → rest * u + (r' * u + b * 1) ≤ r * y
 shares {r} rest r' b x u e e' enough = rw (e, e') (omega (arith, bound))
@@ -107,7 +116,9 @@ shares {r} rest r' b x u e e' enough = rw (e, e') (omega (arith, bound))
     bound = rw e at enough
 
 -- past its latency L the server left never serves more by tick t than R·(t-T) minus the cross curve's value at t-L
-pub residual-law : {cross : List Bucket} {s left : Server} → 1 ≤ length cross → Residual cross s left → last cross .rate < s .rate → (t : ℕ) → left .latency ≤ t → served left t + reads cross (t - left .latency) ≤ s .rate * (t - s .latency)
+pub residual-law :
+    {cross : List Bucket} {s left : Server} → 1 ≤ length cross → Residual cross s left → last cross .rate < s .rate → (t : ℕ)
+    → left .latency ≤ t → served left t + reads cross (t - left .latency) ≤ s .rate * (t - s .latency)
 unfolding served reads bucketAt
 residual-law {cross} {s} {left} some r bounded t past =
     omega (arith, value-least cross (t - left .latency) 1 (last-inside cross some), together)

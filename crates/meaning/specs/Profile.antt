@@ -60,16 +60,16 @@ unfoldable pub bucketFields : List Bucket → List Field
 bucketFields [] = []
 bucketFields (k ∷ f) = 20 bits k .rate ∷ 40 bits k .burst ∷ bucketFields f
 
--- A curve: 6 bits count minus one, and the buckets. A server: 20 bits rate, 20 bits latency.
-unfoldable pub body : Profile → List Field
-body (curve f) = 6 bits (length f - 1) ∷ bucketFields f
-body (server s) = 20 bits s .rate ∷ 20 bits s .latency ∷ []
+-- First 4 bits edition, next 4 bits kind. A curve: 6 bits count minus one, and the buckets. A server: 20 bits rate, 20 bits latency.
+unfoldable pub fields : Profile → List Field
+fields (curve f) = 4 bits edition ∷ 4 bits kindOf (curve f) ∷ 6 bits (length f - 1) ∷ bucketFields f
+fields (server s) = 4 bits edition ∷ 4 bits kindOf (server s) ∷ 20 bits s .rate ∷ 20 bits s .latency ∷ []
 
--- First 4 bits edition, next 4 bits kind: all the bits before padding.
+-- The bits before padding.
 unfoldable pub profileBits : Profile → List ℕ
-profileBits p = packed (4 bits edition ∷ 4 bits kindOf p ∷ body p)
+profileBits p = packed (fields p)
 
--- The byte count that kind and count require: the bits before padding, up to the byte's end.
+-- The byte count that kind and count require: those bits, up to the byte's end.
 unfoldable pub byteCount : Profile → ℕ
 byteCount p = (length (profileBits p) + 7) / 8
 
