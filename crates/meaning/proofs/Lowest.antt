@@ -5,12 +5,12 @@ use mathlib.Core.Path.{_≡_, refl, sym, ap}
 use mathlib.Core.Logic.{_⊎_, inl, inr}
 use mathlib.Core.List.{List, [], _∷_, List·Memᴰ·cases-cons}
 use Prim.Native.Nat.{ℕ, _+_, _*_, _≤_, _<_}
-use native.Mathlib.Nat.{le-of-eq, le-trans, le-antisymm, lt-of-mul-lt-mul-left, eq-of-mul-eq-mul-right, mul-pos}
+use native.Mathlib.Nat.{le-of-eq, le-of-lt, le-trans, le-antisymm, lt-of-mul-lt-mul-left, eq-of-mul-eq-mul-right, mul-pos}
 use native.Mathlib.Decide.{ℕ-discrete}
 use native.Mathlib.Omega.{arith}
 use lib.ListN.{length}
 use Rattle.meaning.specs.Curve.{Bucket, _∈_, bucketAt, valueAt, Useful}
-use Rattle.meaning.proofs.Value.{Reached, value-least, value-reached, value-unique}
+use Rattle.meaning.proofs.Value.{Reached, same-bucket-at, value-least, value-reached, value-unique}
 
 -- buckets of the same rate and the same burst are the same
 pub same-bucket : {k j : Bucket} → k .rate ≡ j .rate → k .burst ≡ j .burst → k ≡ j
@@ -24,6 +24,23 @@ same-or-other k j = split (ℕ-discrete (k .rate) (j .rate)) (ℕ-discrete (k .b
     split (yes r) (yes b) = yes (same-bucket r b)
     split (yes r) (no b) = no (λ e. b (ap (λ (x : Bucket). x .burst) e))
     split (no r) b = no (λ e. r (ap (λ (x : Bucket). x .rate) e))
+
+-- what is not above the others of a list is not above any bucket of it
+pub least-of-others :
+    (f : List Bucket) (p q : ℕ) {k : Bucket}
+    → ((j : Bucket) → j ∈ f → (j ≡ k → ⊥) → bucketAt k p q ≤ bucketAt j p q) → (j : Bucket) → j ∈ f
+    → bucketAt k p q ≤ bucketAt j p q
+least-of-others f p q {k} others j m = split (same-or-other j k)
+  where
+    split : Dec (j ≡ k) → bucketAt k p q ≤ bucketAt j p q
+    split (yes e) = le-of-eq (same-bucket-at p q (sym e))
+    split (no other) = others j m other
+
+-- a useful bucket is not above any at the time at which it is useful
+pub useful-least :
+    {f : List Bucket} {k : Bucket} (u : Useful f k) (j : Bucket) → j ∈ f
+    → bucketAt k (u .p) (u .q) ≤ bucketAt j (u .p) (u .q)
+useful-least {f} u = least-of-others f (u .p) (u .q) (λ j m other. le-of-lt (u .below j m other))
 
 -- a number above every rate of a list
 pub record RatesBelow (f : List Bucket) : Type 0 where

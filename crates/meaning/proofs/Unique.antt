@@ -10,8 +10,8 @@ use native.Mathlib.Nat.{le-of-eq, le-of-lt, le-trans, le-antisymm, mul-pos, mul-
 use native.Mathlib.Omega.{arith}
 use lib.ListN.{length}
 use Rattle.meaning.specs.Curve.{Bucket, _∈_, bucketAt, valueAt, Falling, Useful, NormalForm, NormalOf}
-use Rattle.meaning.proofs.Value.{Reached, same-bucket-at, value-least, value-reached, value-unique}
-use Rattle.meaning.proofs.Lowest.{same-or-other, rates-below, bucket-later, meet-same}
+use Rattle.meaning.proofs.Value.{Reached, value-least, value-reached, value-unique}
+use Rattle.meaning.proofs.Lowest.{least-of-others, rates-below, bucket-later, meet-same}
 
 -- the same bucket has the same rate
 same-rate : {k j : Bucket} → k ≡ j → k .rate ≡ j .rate
@@ -86,15 +86,9 @@ module _ {f g : List Bucket} (same : (p q : ℕ) → 0 < p → 0 < q → valueAt
       (p q : ℕ) → 0 < p → 0 < q → {k : Bucket} → k ∈ f
       → ((j : Bucket) → j ∈ f → (j ≡ k → ⊥) → bucketAt k p q ≤ bucketAt j p q) → (j : Bucket) → j ∈ g
       → bucketAt k p q ≤ bucketAt j p q
-  lowest-not-above p q hp hq {k} m others j n =
-      le-trans (le-of-eq (sym (value-unique f p q least m refl) ∙ same p q hp hq)) (value-least g p q n)
-    where
-      split : (i : Bucket) → i ∈ f → Dec (i ≡ k) → bucketAt k p q ≤ bucketAt i p q
-      split i o (yes e) = le-of-eq (same-bucket-at p q (sym e))
-      split i o (no other) = others i o other
-
-      least : (i : Bucket) → i ∈ f → bucketAt k p q ≤ bucketAt i p q
-      least i o = split i o (same-or-other i k)
+  lowest-not-above p q hp hq m others j n =
+      let value = value-unique f p q (least-of-others f p q others) m refl in
+      le-trans (le-of-eq (sym value ∙ same p q hp hq)) (value-least g p q n)
 
   -- What is useful in the one list, strictly lowest there at p/q,
   module _ {k : Bucket} (m : k ∈ f) (u : Useful f k) (n : ℕ) (above : (j : Bucket) → j ∈ f → j .rate + 1 < n) where
