@@ -29,7 +29,8 @@ same-rate-below e h = rw (← e) h
 -- `slower` holds each bucket that is slow enough, seen a latency later
 pub slower-has : (s : Server) {f : List Bucket} {k : Bucket} → k ∈ f → k .rate ≤ s .rate → later (s .latency) k ∈ slower s f
 unfolding slower addedIf
-slower-has s (List·Memᴰ·head {x = j} e) h = rw (le-leb (j .rate) (s .rate) (same-rate-below e h)) (List·Memᴰ·head (ap (later (s .latency)) e))
+slower-has s (List·Memᴰ·head {x = j} e) h =
+    rw (le-leb (j .rate) (s .rate) (same-rate-below e h)) (List·Memᴰ·head (ap (later (s .latency)) e))
 slower-has s {k = k} (List·Memᴰ·tail {x = j} {xs = f} m) h = wanted-or-not (leb (j .rate) (s .rate)) (slower-has s m h)
   where
     wanted-or-not : (b : Bool) → later (s .latency) k ∈ slower s f → later (s .latency) k ∈ addedIf b (later (s .latency) j) (slower s f)
@@ -51,7 +52,8 @@ slower-from s (j ∷ f) {k} m = wanted-or-not (leb (j .rate) (s .rate)) refl (λ
     further : Slowed s f k → Slowed s (j ∷ f) k
     further r = record { bucket = r .bucket; inside = List·Memᴰ·tail (r .inside); slow = r .slow; is-later = r .is-later }
 
-    wanted : leb (j .rate) (s .rate) ≡ true → (k ∈ slower s f → Slowed s f k) → (k ≡ later (s .latency) j) ⊎ (k ∈ slower s f) → Slowed s (j ∷ f) k
+    wanted :
+        leb (j .rate) (s .rate) ≡ true → (k ∈ slower s f → Slowed s f k) → (k ≡ later (s .latency) j) ⊎ (k ∈ slower s f) → Slowed s (j ∷ f) k
     wanted t rest (inl e) = record { bucket = j; inside = List·Memᴰ·head refl; slow = leb-true _ _ t; is-later = e }
     wanted t rest (inr n) = further (rest n)
 
@@ -112,7 +114,8 @@ module _ (rate m p q : ℕ) where
   cut-reached [] = by-line refl
   cut-reached (k ∷ f) = split (cut-reached f) (least-is (leb (k .rate) rate) (bucketAt k p q) (cutAt f rate m p q))
     where
-      further : leastIf (leb (k .rate) rate) (bucketAt k p q) (cutAt f rate m p q) ≡ cutAt f rate m p q → CutReached f rate m p q → CutReached (k ∷ f) rate m p q
+      further :
+          leastIf (leb (k .rate) rate) (bucketAt k p q) (cutAt f rate m p q) ≡ cutAt f rate m p q → CutReached f rate m p q → CutReached (k ∷ f) rate m p q
       further e (by-line r) = by-line (e ∙ r)
       further e (by-slow j n h r) = by-slow j (List·Memᴰ·tail n) h (e ∙ r)
 
@@ -153,8 +156,10 @@ module _ (f : List Bucket) (s : Server) (m p q : ℕ) where
   cut-list = reached (cut-reached (s .rate) m (p + s .latency * q) q f)
     where
       reached : CutReached f (s .rate) m (p + s .latency * q) q → valueAt (cutList f s m) p q ≡ cutAt f (s .rate) m (p + s .latency * q) q
-      reached (by-line e) = value-unique (cutList f s m) p q cut-below (Memᴰ·append-right (slower s f) (List·Memᴰ·head refl)) (e ∙ sym (line-at s m p q))
-      reached (by-slow k n h e) = value-unique (cutList f s m) p q cut-below (Memᴰ·append-left _ (slower-has s n h)) (e ∙ sym (later-at _ _ _ _))
+      reached (by-line e) =
+          value-unique (cutList f s m) p q cut-below (Memᴰ·append-right (slower s f) (List·Memᴰ·head refl)) (e ∙ sym (line-at s m p q))
+      reached (by-slow k n h e) =
+          value-unique (cutList f s m) p q cut-below (Memᴰ·append-left _ (slower-has s n h)) (e ∙ sym (later-at _ _ _ _))
 
 -- a curve behind a server is the cut, a latency later
 pub behind-cut :
@@ -165,7 +170,7 @@ behind-cut {f} {g} {s} b p q h = sym (b .normal .same p q h) ∙ cut-list f s (b
 -- A line rate·t + m that is not above a bucket at whole tick s:
 module _ (k : Bucket) (rate m s : ℕ) (above : rate * s + m ≤ bucketAt k s 1) (p q : ℕ) where
   -- if the bucket is the flatter of the two, neither is the line above it before s,
-  flatter-before : k .rate ≤ rate → p ≤ s * q → rate * p + m * q ≤ bucketAt k p q
+  pub flatter-before : k .rate ≤ rate → p ≤ s * q → rate * p + m * q ≤ bucketAt k p q
   unfolding bucketAt
   flatter-before flat h = back (le-dest h)
     where
@@ -173,7 +178,7 @@ module _ (k : Bucket) (rate m s : ℕ) (above : rate * s + m ≤ bucketAt k s 1)
       back (e, sum) = omega (arith, mul-le-mul-left q above, mul-le-mul-right e flat, ap (λ x. k .rate * x) sum, ap (λ x. rate * x) sum)
 
   -- and if the bucket is the steeper, neither after s
-  steeper-after : rate ≤ k .rate → s * q ≤ p → rate * p + m * q ≤ bucketAt k p q
+  pub steeper-after : rate ≤ k .rate → s * q ≤ p → rate * p + m * q ≤ bucketAt k p q
   unfolding bucketAt
   steeper-after steep h = on (le-dest h)
     where
