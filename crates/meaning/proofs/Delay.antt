@@ -1,1 +1,84 @@
--- Not written yet.
+-- The delay of a curve at a server: 0 for a curve that carries nothing by tick 1, and otherwise T + M/R, the quotient rounded up,
+-- where M is the greatest of value(s) - R·s. With one tick less it fails: what is carried by tick 1 needs the latency, and the
+-- tick at which M is reached needs the quotient besides.
+-- Assumes nothing.
+use mathlib.Core.Path.{_≡_, _∙_, ap}
+use mathlib.Core.List.{List}
+use Prim.Native.Nat.{ℕ, _+_, _-_, _*_, _≤_}
+use native.Mathlib.Nat.{le-dest, lt-of-mul-lt-mul-left, mul-add}
+use native.Mathlib.Decide.{ℕ-discrete}
+use native.Mathlib.Omega.{arith}
+use lib.ListN.{length}
+use borrow.Author.Tests.{eq-eqb, ne-eqb}
+use Rattle.meaning.specs.Curve.{Bucket, bucketAt, tickValue, NormalForm}
+use Rattle.meaning.specs.Server.{Server, served, reads, Smallest, Excess, Delay, last}
+use Rattle.meaning.specs.Computed.{pick, delay}
+use Rattle.meaning.proofs.Value.{value-least, Reached, value-reached}
+use Rattle.meaning.proofs.Joining.{smallest-unique, rounded-up-is}
+use Rattle.meaning.proofs.Excess.{excess-is}
+
+-- a curve that carries nothing by tick 1 carries nothing by any tick
+carries-nothing : (f : List Bucket) → 1 ≤ length f → reads f 1 ≡ 0 → (t : ℕ) → reads f t ≡ 0
+unfolding reads bucketAt
+carries-nothing f some none t = from (value-reached f 1 1 some)
+  where
+    from : Reached f 1 1 → tickValue f t ≡ 0
+    from r =
+        let idle : r .bucket .rate ≡ 0 = omega (arith, r .value-is) in
+        omega (arith, r .value-is, value-least f t 1 (r .inside), ap (λ x. x * t) idle)
+
+-- so it has no delay
+pub delay-of-nothing : (f : List Bucket) (s : Server) → 1 ≤ length f → reads f 1 ≡ 0 → Delay f s 0
+delay-of-nothing f s some none =
+    record { suffices = λ t. omega (arith, carries-nothing f some none t); smallest = λ d enough. omega arith }
+
+-- what is served by a tick that is the latency and y later
+served-later : (s : Server) (t y : ℕ) → served s (t + (s .latency + y)) ≡ s .rate * t + s .rate * y
+unfolding served
+served-later s t y = ap (λ u. s .rate * u) sum ∙ mul-add _ _ _
+  where
+    sum : t + (s .latency + y) - s .latency ≡ t + y
+    sum = omega arith
+
+-- Any other curve, with M the greatest of value(s) - R·s, and x the quotient M/R rounded up:
+module _
+    (f : List Bucket) (s : Server) {m : ℕ} (x : ℕ) (e : Excess f (s .rate) m) (rounded : Smallest (λ y. m ≤ s .rate * y) x)
+  where
+    -- latency and quotient suffice
+    suffice : (t : ℕ) → reads f t ≤ served s (t + (s .latency + x))
+    suffice t = omega (arith, e .greatest t, rounded .suffices, served-later s t x)
+
+    -- a number that suffices is not below the latency, by tick 1,
+    latency-needed : (reads f 1 ≡ 0 → ⊥) → (d : ℕ) → reads f 1 ≤ served s (1 + d) → s .latency ≤ d
+    unfolding served
+    latency-needed some d enough =
+        omega (arith, lt-of-mul-lt-mul-left (s .rate) {m = 0} {n = 1 + d - s .latency} (omega arith))
+
+    -- nor is what is over the latency below the quotient, by the tick at which M is reached
+    quotient-needed : (y : ℕ) → reads f (e .at) ≤ served s (e .at + (s .latency + y)) → x ≤ y
+    quotient-needed y enough = rounded .smallest y (omega (arith, e .reached, served-later s (e .at) y))
+
+    -- so they are the delay
+    pub delay-from-excess : (reads f 1 ≡ 0 → ⊥) → Delay f s (s .latency + x)
+    delay-from-excess some = record { suffices = suffice; smallest = smallest }
+      where
+        smallest : (d : ℕ) → ((t : ℕ) → reads f t ≤ served s (t + d)) → s .latency + x ≤ d
+        smallest d enough = over (le-dest (latency-needed some d (enough 1)))
+          where
+            over : (y : ℕ) × (s .latency + y ≡ d) → s .latency + x ≤ d
+            over (y, sum) = omega (arith, quotient-needed y (rw sum (enough (e .at))))
+
+-- the computed number is the delay
+pub delay-is : {f : List Bucket} (s : Server) → NormalForm f → last f .rate ≤ s .rate → 1 ≤ s .rate → Delay f s (delay f s)
+unfolding delay pick reads
+delay-is {f} s n slow some = split (ℕ-discrete (tickValue f 1) 0)
+  where
+    split : Dec (tickValue f 1 ≡ 0) → Delay f s (delay f s)
+    split (yes e) = rw (eq-eqb (tickValue f 1) 0 e) (delay-of-nothing f s (n .some) e)
+    split (no e) =
+        rw (ne-eqb (tickValue f 1) 0 e)
+        (delay-from-excess f s _ (excess-is (s .rate) n slow) (rounded-up-is _ (s .rate) some) e)
+
+-- one number is the delay
+pub delay-unique : (f : List Bucket) (s : Server) {d d' : ℕ} → Delay f s d → Delay f s d' → d ≡ d'
+delay-unique f s a b = smallest-unique a b
