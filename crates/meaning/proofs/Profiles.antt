@@ -6,7 +6,7 @@ use mathlib.Core.Bool.{true, false}
 use mathlib.Core.Logic.{_⊎_, inl, inr, _≢_}
 use mathlib.Core.List.{List, [], _∷_, _++_, map, append-assoc, List·Memᴰ, List·Memᴰ·head, List·Memᴰ·tail, List·Memᴰ·cases-cons}
 use Prim.Native.Nat.{ℕ, zero, suc, _+_, _-_, _*_, _/_, _%_, _^_, _≤_, _<_}
-use native.Mathlib.Nat.{zero-add, add-zero, le-refl, mul-le-mul, mul-add-mod-self-left, mod-lt, mod-eq-of-lt, mod-one, mul-add-div-right, mul-add-mod-self-right, two-pow-succ}
+use native.Mathlib.Nat.{le-antisymm, zero-add, add-zero, le-refl, mul-le-mul, mul-add-mod-self-left, mod-lt, mod-eq-of-lt, mod-one, mul-add-div-right, mul-add-mod-self-right, two-pow-succ}
 use native.Mathlib.Decide.{ℕ-discrete}
 use native.Mathlib.Omega.{arith}
 use lib.Dec.{eqb}
@@ -476,3 +476,88 @@ write-back file bytes clear = standing-written file whole no-one (split (ℕ-dis
     split (yes kind) = curve-stands file first kind
     split (no other) =
         server-stands file first (not-apart _ _ (λ h. clear HEADER (inl (inl (inl (refl, inr (inr (other, h))))))))
+
+-- what is refused is refused with one number, and leaves one list
+module _ {lines : Lines} {before : List ℕ} where
+  refused-code :
+      {after after′ : List ℕ} {code figure code′ figure′ : ℕ}
+      → Refused lines before after code figure → Refused lines before after′ code′ figure′ → code ≡ code′
+  refused-code v w =
+      v .code-is
+      ∙ le-antisymm (v .wins .smallest (w .why) (w .wins .holds)) (w .wins .smallest (v .why) (v .wins .holds))
+      ∙ sym (w .code-is)
+
+  not-clear : {after : List ℕ} {code figure : ℕ} → Refused lines before after code figure → Clear lines → ⊥
+  not-clear v clear = clear (v .why) (v .wins .holds)
+
+-- no other outcome of reading is right: the list, the code and each figure are the same
+pub record SameRead (after after′ : List ℕ) (code kind count rate latency code′ kind′ count′ rate′ latency′ : ℕ) : Type 0 where
+  pub after-same : after ≡ after′
+  pub code-same : code ≡ code′
+  pub kind-same : kind ≡ kind′
+  pub count-same : count ≡ count′
+  pub rate-same : rate ≡ rate′
+  pub latency-same : latency ≡ latency′
+
+pub one-read :
+    {file before after after′ : List ℕ} {code kind count rate latency code′ kind′ count′ rate′ latency′ : ℕ}
+    → ReadOutcome file before after code kind count rate latency
+    → ReadOutcome file before after′ code′ kind′ count′ rate′ latency′
+    → SameRead after after′ code kind count rate latency code′ kind′ count′ rate′ latency′
+one-read (ReadOutcome.refused v c r t) (ReadOutcome.refused w c′ r′ t′) =
+    record {
+      after-same = v .kept ∙ sym (w .kept);
+      code-same = refused-code v w;
+      kind-same = v .figure-is ∙ sym (w .figure-is);
+      count-same = c ∙ sym c′;
+      rate-same = r ∙ sym r′;
+      latency-same = t ∙ sym t′;
+    }
+one-read (ReadOutcome.refused v c r t) (ReadOutcome.answered w) = absurd (not-clear v (w .clear))
+one-read (ReadOutcome.answered v) (ReadOutcome.refused w c r t) = absurd (not-clear w (v .clear))
+one-read (ReadOutcome.answered v) (ReadOutcome.answered w) =
+    record {
+      after-same = v .output ∙ sym (w .output);
+      code-same = v .code-is ∙ sym (w .code-is);
+      kind-same = v .kind-is ∙ sym (w .kind-is);
+      count-same = v .count-is ∙ sym (w .count-is);
+      rate-same = v .rate-is ∙ sym (w .rate-is);
+      latency-same = v .latency-is ∙ sym (w .latency-is);
+    }
+
+-- no other outcome of writing is right: the buffer, the code and the byte count are the same
+pub record SameWrite (after after′ : List ℕ) (code count code′ count′ : ℕ) : Type 0 where
+  pub after-same : after ≡ after′
+  pub code-same : code ≡ code′
+  pub count-same : count ≡ count′
+
+pub one-write :
+    {operand : Lines} {p : Profile} {before after after′ : List ℕ} {code count code′ count′ : ℕ}
+    → WriteOutcome operand p before after code count → WriteOutcome operand p before after′ code′ count′
+    → SameWrite after after′ code count code′ count′
+one-write (WriteOutcome.refused v) (WriteOutcome.refused w) =
+    record {
+      after-same = v .kept ∙ sym (w .kept);
+      code-same = refused-code v w;
+      count-same = v .figure-is ∙ sym (w .figure-is);
+    }
+one-write (WriteOutcome.refused v) (WriteOutcome.answered w) = absurd (not-clear v (w .clear))
+one-write (WriteOutcome.answered v) (WriteOutcome.refused w) = absurd (not-clear w (v .clear))
+one-write (WriteOutcome.answered v) (WriteOutcome.answered w) =
+    record {
+      after-same = v .output ∙ sym (w .output);
+      code-same = v .code-is ∙ sym (w .code-is);
+      count-same = v .count-is ∙ sym (w .count-is);
+    }
+
+-- P11: server (6,1) as a file is 12 00 00 60 00 01; curve {(10,2)} is 11 00 00 02 80 00 00 00 00 80
+pub p11-server :
+    written (server (record { rate = 6; latency = 1 })) ≡ 0x12 ∷ 0x00 ∷ 0x00 ∷ 0x60 ∷ 0x00 ∷ 0x01 ∷ []
+unfolding written byteCount profileBits fields packed bitsOf spelt bytesOf
+p11-server = refl
+
+pub p11-curve :
+    written (curve (record { rate = 10; burst = 2 } ∷ []))
+    ≡ 0x11 ∷ 0x00 ∷ 0x00 ∷ 0x02 ∷ 0x80 ∷ 0x00 ∷ 0x00 ∷ 0x00 ∷ 0x00 ∷ 0x80 ∷ []
+unfolding written byteCount profileBits fields bucketFields packed bitsOf spelt bytesOf
+p11-curve = refl

@@ -132,29 +132,36 @@ pub record Read (lines : Lines) (p : Profile) (before after : List ℕ) (code ki
   pub latency-is : latency ≡ numbersOf p .latency
   pub output : after ≡ over (flat (bucketsOf p)) before
 
--- What comes of reading: a refusal, with 0 for each figure, or the profile. It is ROOM where the list is shorter than the curve.
-unfoldable pub ReadOutcome : List ℕ → List ℕ → List ℕ → ℕ → ℕ → ℕ → ℕ → ℕ → Type 0
-ReadOutcome file before after code kind count rate latency =
-    (Refused lines before after code kind × (count ≡ 0) × (rate ≡ 0) × (latency ≡ 0))
-    ⊎ Read lines (profileOf file) before after code kind count rate latency
-  where
-    lines : Lines
-    lines = fileLines file or ROOM when (length before < length (flat (bucketsOf (profileOf file))))
+-- The output list, of `room` numbers, is shorter than the curve.
+abbrev pub readLines : List ℕ → ℕ → Lines
+readLines file room = fileLines file or ROOM when (room < length (flat (bucketsOf (profileOf file))))
 
--- A file is written: the writer fills the start of a lent byte buffer, answers the byte count, and leaves the bytes beyond.
-pub record Wrote (lines : Lines) (file before after : List ℕ) (code count : ℕ) : Type 0 where
+-- What comes of reading: a refusal, with 0 for each count and figure, or the profile.
+pub data ReadOutcome (file before after : List ℕ) (code kind count rate latency : ℕ) : Type 0 where
+  refused :
+      Refused (readLines file (length before)) before after code kind → count ≡ 0 → rate ≡ 0 → latency ≡ 0
+      → ReadOutcome file before after code kind count rate latency
+  answered :
+      Read (readLines file (length before)) (profileOf file) before after code kind count rate latency
+      → ReadOutcome file before after code kind count rate latency
+
+-- A profile is written: the writer fills the start of a lent byte buffer, answers the byte count, and leaves the bytes beyond.
+pub record Wrote (lines : Lines) (p : Profile) (before after : List ℕ) (code count : ℕ) : Type 0 where
   pub clear : Clear lines
   pub code-is : code ≡ 0
-  pub count-is : count ≡ length file
-  pub filled : after ≡ over file before
+  pub count-is : count ≡ length (written p)
+  pub output : after ≡ over (written p) before
 
--- What comes of writing: a refusal or the file. It is ROOM where the buffer is shorter than the file.
-unfoldable pub WriteOutcome : Lines → Profile → List ℕ → List ℕ → ℕ → ℕ → Type 0
-WriteOutcome operand p before after code count =
-    Refused lines before after code count ⊎ Wrote lines (written p) before after code count
-  where
-    lines : Lines
-    lines = operand or ROOM when (length before < length (written p))
+-- The lines of the operand; the buffer, of `room` bytes, is shorter than the file.
+abbrev pub writeLines : Lines → Profile → ℕ → Lines
+writeLines operand p room = operand or ROOM when (room < length (written p))
+
+-- What comes of writing: a refusal or the file.
+pub data WriteOutcome (operand : Lines) (p : Profile) (before after : List ℕ) (code count : ℕ) : Type 0 where
+  refused :
+      Refused (writeLines operand p (length before)) before after code count → WriteOutcome operand p before after code count
+  answered :
+      Wrote (writeLines operand p (length before)) p before after code count → WriteOutcome operand p before after code count
 
 abbrev pub WriteCurveOutcome : List ℕ → List ℕ → List ℕ → ℕ → ℕ → Type 0
 WriteCurveOutcome l = WriteOutcome (curveLines l) (curve (buckets l))
