@@ -18,11 +18,9 @@ use Rattle.meaning.specs.Server.{Server, Instant, served, reads, Greates
 use Rattle.meaning.proofs.Order.{le-or-lt}
 use Rattle.meaning.proofs.Value.{value-least, value-reached, some, Reached}
 use Rattle.meaning.proofs.Unique.{normal-of-unique}
+use Rattle.meaning.proofs.Excess.{gap-unique}
+use Rattle.meaning.proofs.Joining.{join-order}
 use Rattle.meaning.proofs.Cut.{cutAt, CutReached, by-line, by-slow, cut-line, cut-slow, cut-reached, cutList, cut-list, behind-cut, cut-early, cut-late, flatter-before, steeper-after}
-
--- two greatest gaps are equal
-pub greatest-unique : {a b : Instant → ℕ} {m n : ℕ} → GreatestGap a b m → GreatestGap a b n → m ≡ n
-greatest-unique x y = omega (arith, x .reached, y .reached, x .greatest (y .at), y .greatest (x .at))
 
 -- n is the greatest of a(u) minus b(u) over the instants up to `end`.
 record GreatestUpTo (a b : Instant → ℕ) (end n : ℕ) : Type 0 where
@@ -310,7 +308,7 @@ module _
     where
       after : (w : ℕ) × (s .latency + w ≡ e .at) → OneCut f a (s .latency) next next m
       after (w, h) =
-          let same-excess : m ≡ next * s .latency + n = greatest-unique d (excess-behind w (omega arith)) in
+          let same-excess : m ≡ next * s .latency + n = gap-unique d (excess-behind w (omega arith)) in
           record { n = n; excess = e; same = rw same-excess (same-after w (omega arith)) }
 
       split : (s .latency ≤ e .at) ⊎ (e .at < s .latency) → OneCut f a (s .latency) next next m
@@ -353,17 +351,12 @@ hop-by-hop {f} {a} {g} {s} {next} filled first second = step (one-cut filled fir
 
 -- there is one list behind a server
 pub behind-unique : {f g h : List Bucket} {s : Server} → Behind f s g → Behind f s h → g ≡ h
-behind-unique {f} {g} {h} {s} x y = normal-of-unique (x .normal) (rw (greatest-unique (y .excess) (x .excess)) at (y .normal))
+behind-unique {f} {g} {h} {s} x y = normal-of-unique (x .normal) (rw (gap-unique (y .excess) (x .excess)) at (y .normal))
 
 -- one step through the joined server, if answered, is the list of the two hops
 pub one-step-is-hop-by-hop :
     {f a g h : List Bucket} {s next : Server} → 1 ≤ length f → Behind f s a → Behind a next g → Behind f (join s next) h → g ≡ h
 one-step-is-hop-by-hop filled first second joined = behind-unique (hop-by-hop filled first second) joined
-
--- joining in the other order gives the same server
-join-order : (s next : Server) → join s next ≡ join next s
-unfolding join
-join-order s next = λ i. record { rate = min-comm (s .rate) (next .rate) i; latency = add-comm (s .latency) (next .latency) i }
 
 -- the order of two servers does not matter
 pub either-order :
