@@ -1,1 +1,212 @@
--- Not written yet.
+-- A curve cut by a line: the least of the line rate·t + m and of the curve's buckets whose rate is at most the line's.
+-- A curve behind a server is such a cut, seen one latency later; and a cut by a line that meets the curve at a whole tick is the line up to
+-- that tick, and the lower of the two from there on.
+-- Assumes nothing.
+use mathlib.Core.Path.{_≡_, refl, sym, _∙_, ap}
+use mathlib.Core.Bool.{Bool, true, false}
+use mathlib.Core.Logic.{_⊎_, inl, inr}
+use mathlib.Core.List.{List, [], _∷_, _++_, List·Memᴰ·head, List·Memᴰ·tail, List·Memᴰ·cases-cons, List·Memᴰ·append-cases, List·Memᴰ·eq-of-singleton, Memᴰ·append-left, Memᴰ·append-right}
+use Prim.Native.Nat.{ℕ, _*_, _+_, _≤_, _<_, min}
+use native.Mathlib.Nat.{le-trans, le-of-eq, le-of-lt, le-refl, le-dest, min-le-left, min-le-right, le-min, le-antisymm, mul-le-mul-left, mul-le-mul-right}
+use native.Mathlib.Omega.{arith}
+use lib.ListN.{length}
+use lib.Dec.{leb}
+use borrow.Author.Tests.{leb-true, le-leb}
+use Rattle.meaning.specs.Curve.{Bucket, _∈_, bucketAt, valueAt}
+use Rattle.meaning.specs.Server.{Server, later, addedIf, slower, reads, Behind}
+use Rattle.meaning.proofs.Order.{le-or-lt, min-is}
+use Rattle.meaning.proofs.Value.{same-bucket-at, value-least, below-value, value-unique}
+
+-- a bucket seen a latency later has the value that it had a latency before
+pub later-at : (latency : ℕ) (k : Bucket) (p q : ℕ) → bucketAt (later latency k) p q ≡ bucketAt k (p + latency * q) q
+unfolding later bucketAt
+later-at latency k p q = omega arith
+
+-- the same bucket is slow as well
+same-rate-below : {k j : Bucket} {n : ℕ} → k ≡ j → k .rate ≤ n → j .rate ≤ n
+same-rate-below e h = rw (← e) h
+
+-- `slower` holds each bucket that is slow enough, seen a latency later
+pub slower-has : (s : Server) {f : List Bucket} {k : Bucket} → k ∈ f → k .rate ≤ s .rate → later (s .latency) k ∈ slower s f
+unfolding slower addedIf
+slower-has s (List·Memᴰ·head {x = j} e) h = rw (le-leb (j .rate) (s .rate) (same-rate-below e h)) (List·Memᴰ·head (ap (later (s .latency)) e))
+slower-has s {k = k} (List·Memᴰ·tail {x = j} {xs = f} m) h = wanted-or-not (leb (j .rate) (s .rate)) (slower-has s m h)
+  where
+    wanted-or-not : (b : Bool) → later (s .latency) k ∈ slower s f → later (s .latency) k ∈ addedIf b (later (s .latency) j) (slower s f)
+    wanted-or-not true n = List·Memᴰ·tail n
+    wanted-or-not false n = n
+
+-- and nothing else
+pub record Slowed (s : Server) (f : List Bucket) (k : Bucket) : Type 0 where
+  pub bucket : Bucket
+  pub inside : bucket ∈ f
+  pub slow : bucket .rate ≤ s .rate
+  pub is-later : k ≡ later (s .latency) bucket
+
+pub slower-from : (s : Server) (f : List Bucket) {k : Bucket} → k ∈ slower s f → Slowed s f k
+unfolding slower addedIf
+slower-from s [] m = elim m [ ]
+slower-from s (j ∷ f) {k} m = wanted-or-not (leb (j .rate) (s .rate)) refl (λ n. slower-from s f n) m
+  where
+    further : Slowed s f k → Slowed s (j ∷ f) k
+    further r = record { bucket = r .bucket; inside = List·Memᴰ·tail (r .inside); slow = r .slow; is-later = r .is-later }
+
+    wanted : leb (j .rate) (s .rate) ≡ true → (k ∈ slower s f → Slowed s f k) → (k ≡ later (s .latency) j) ⊎ (k ∈ slower s f) → Slowed s (j ∷ f) k
+    wanted t rest (inl e) = record { bucket = j; inside = List·Memᴰ·head refl; slow = leb-true _ _ t; is-later = e }
+    wanted t rest (inr n) = further (rest n)
+
+    wanted-or-not :
+        (b : Bool) → leb (j .rate) (s .rate) ≡ b → (k ∈ slower s f → Slowed s f k) → k ∈ addedIf b (later (s .latency) j) (slower s f)
+        → Slowed s (j ∷ f) k
+    wanted-or-not true t rest n = wanted t rest (List·Memᴰ·cases-cons n)
+    wanted-or-not false t rest n = further (rest n)
+
+-- The smaller of two numbers if the first is wanted, otherwise the second.
+unfoldable pub leastIf : Bool → ℕ → ℕ → ℕ
+leastIf true a b = min a b
+leastIf false a b = b
+
+-- The cut at p/q, times q: the least of rate·p + m·q and of the values of the buckets with rates up to `rate`.
+unfoldable pub cutAt : List Bucket → ℕ → ℕ → ℕ → ℕ → ℕ
+unfolding leastIf
+cutAt [] rate m p q = rate * p + m * q
+cutAt (k ∷ f) rate m p q = leastIf (leb (k .rate) rate) (bucketAt k p q) (cutAt f rate m p q)
+
+-- what the cut is at a time: the line's value or a slow bucket's
+pub data CutReached (f : List Bucket) (rate m p q : ℕ) : Type 0 where
+  by-line : cutAt f rate m p q ≡ rate * p + m * q → CutReached f rate m p q
+  by-slow : (k : Bucket) → k ∈ f → k .rate ≤ rate → cutAt f rate m p q ≡ bucketAt k p q → CutReached f rate m p q
+
+-- that least is not above the second number, and is one of the two
+least-second : (b : Bool) (x y : ℕ) → leastIf b x y ≤ y
+unfolding leastIf
+least-second true x y = min-le-right x y
+least-second false x y = le-refl y
+
+least-is : (b : Bool) (x y : ℕ) → ((b ≡ true) × (leastIf b x y ≡ x)) ⊎ (leastIf b x y ≡ y)
+unfolding leastIf
+least-is true x y = split (min-is x y)
+  where
+    split : (min x y ≡ x) ⊎ (min x y ≡ y) → (((true ≡ true) × (min x y ≡ x)) ⊎ (min x y ≡ y))
+    split (inl e) = inl (refl, e)
+    split (inr e) = inr e
+least-is false x y = inr refl
+
+module _ (rate m p q : ℕ) where
+  -- the line is not below the cut
+  pub cut-line : (f : List Bucket) → cutAt f rate m p q ≤ rate * p + m * q
+  unfolding cutAt
+  cut-line [] = le-refl _
+  cut-line (k ∷ f) = le-trans (least-second (leb (k .rate) rate) _ _) (cut-line f)
+
+  -- and no slow bucket is
+  pub cut-slow : {f : List Bucket} {k : Bucket} → k ∈ f → k .rate ≤ rate → cutAt f rate m p q ≤ bucketAt k p q
+  unfolding cutAt leastIf
+  cut-slow {k = k} (List·Memᴰ·head {x = j} e) h =
+      rw (le-leb (j .rate) rate (same-rate-below e h)) (le-trans (min-le-left _ _) (le-of-eq (sym (same-bucket-at p q e))))
+  cut-slow (List·Memᴰ·tail {x = j} n) h = le-trans (least-second (leb (j .rate) rate) _ _) (cut-slow n h)
+
+  -- one of them has it
+  pub cut-reached : (f : List Bucket) → CutReached f rate m p q
+  unfolding cutAt
+  cut-reached [] = by-line refl
+  cut-reached (k ∷ f) = split (cut-reached f) (least-is (leb (k .rate) rate) (bucketAt k p q) (cutAt f rate m p q))
+    where
+      further : leastIf (leb (k .rate) rate) (bucketAt k p q) (cutAt f rate m p q) ≡ cutAt f rate m p q → CutReached f rate m p q → CutReached (k ∷ f) rate m p q
+      further e (by-line r) = by-line (e ∙ r)
+      further e (by-slow j n h r) = by-slow j (List·Memᴰ·tail n) h (e ∙ r)
+
+      split :
+          CutReached f rate m p q
+          → ((leb (k .rate) rate ≡ true) × (leastIf (leb (k .rate) rate) (bucketAt k p q) (cutAt f rate m p q) ≡ bucketAt k p q))
+          ⊎ (leastIf (leb (k .rate) rate) (bucketAt k p q) (cutAt f rate m p q) ≡ cutAt f rate m p q)
+          → CutReached (k ∷ f) rate m p q
+      split rest (inl (t, e)) = by-slow k (List·Memᴰ·head refl) (leb-true _ _ t) e
+      split rest (inr e) = further e rest
+
+-- (R, B), B = R·T + M, and the raw list of behind.
+abbrev pub lineBucket : Server → ℕ → Bucket
+lineBucket s m = record { rate = s .rate; burst = s .rate * s .latency + m }
+
+abbrev pub cutList : List Bucket → Server → ℕ → List Bucket
+cutList f s m = slower s f ++ lineBucket s m ∷ []
+
+-- (R, B) has, a latency before, the line's value
+line-at : (s : Server) (m p q : ℕ) → bucketAt (lineBucket s m) p q ≡ s .rate * (p + s .latency * q) + m * q
+unfolding bucketAt
+line-at s m p q = omega arith
+
+module _ (f : List Bucket) (s : Server) (m p q : ℕ) where
+  -- no bucket of the raw list is below the cut
+  cut-below : (k : Bucket) → k ∈ cutList f s m → cutAt f (s .rate) m (p + s .latency * q) q ≤ bucketAt k p q
+  cut-below k n = split (List·Memᴰ·append-cases (slower s f) n)
+    where
+      slow : Slowed s f k → cutAt f (s .rate) m (p + s .latency * q) q ≤ bucketAt k p q
+      slow r = le-trans (cut-slow _ _ _ _ (r .inside) (r .slow)) (le-of-eq (sym (same-bucket-at p q (r .is-later) ∙ later-at _ _ _ _)))
+
+      split : (k ∈ slower s f) ⊎ (k ∈ (lineBucket s m ∷ [])) → cutAt f (s .rate) m (p + s .latency * q) q ≤ bucketAt k p q
+      split (inl i) = slow (slower-from s f i)
+      split (inr i) = le-trans (cut-line _ _ _ _ f) (le-of-eq (sym (same-bucket-at p q (List·Memᴰ·eq-of-singleton i) ∙ line-at s m p q)))
+
+  -- the raw list's value is the cut's, a latency later
+  pub cut-list : valueAt (cutList f s m) p q ≡ cutAt f (s .rate) m (p + s .latency * q) q
+  cut-list = reached (cut-reached (s .rate) m (p + s .latency * q) q f)
+    where
+      reached : CutReached f (s .rate) m (p + s .latency * q) q → valueAt (cutList f s m) p q ≡ cutAt f (s .rate) m (p + s .latency * q) q
+      reached (by-line e) = value-unique (cutList f s m) p q cut-below (Memᴰ·append-right (slower s f) (List·Memᴰ·head refl)) (e ∙ sym (line-at s m p q))
+      reached (by-slow k n h e) = value-unique (cutList f s m) p q cut-below (Memᴰ·append-left _ (slower-has s n h)) (e ∙ sym (later-at _ _ _ _))
+
+-- a curve behind a server is the cut, a latency later
+pub behind-cut :
+    {f g : List Bucket} {s : Server} (b : Behind f s g) (p q : ℕ) → 0 < q
+    → valueAt g p q ≡ cutAt f (s .rate) (b .m) (p + s .latency * q) q
+behind-cut {f} {g} {s} b p q h = sym (b .normal .same p q h) ∙ cut-list f s (b .m) p q
+
+-- A line rate·t + m that is not above a bucket at whole tick s:
+module _ (k : Bucket) (rate m s : ℕ) (above : rate * s + m ≤ bucketAt k s 1) (p q : ℕ) where
+  -- if the bucket is the flatter of the two, neither is the line above it before s,
+  flatter-before : k .rate ≤ rate → p ≤ s * q → rate * p + m * q ≤ bucketAt k p q
+  unfolding bucketAt
+  flatter-before flat h = back (le-dest h)
+    where
+      back : (e : ℕ) × (p + e ≡ s * q) → rate * p + m * q ≤ k .rate * p + k .burst * q
+      back (e, sum) = omega (arith, mul-le-mul-left q above, mul-le-mul-right e flat, ap (λ x. k .rate * x) sum, ap (λ x. rate * x) sum)
+
+  -- and if the bucket is the steeper, neither after s
+  steeper-after : rate ≤ k .rate → s * q ≤ p → rate * p + m * q ≤ bucketAt k p q
+  unfolding bucketAt
+  steeper-after steep h = on (le-dest h)
+    where
+      on : (e : ℕ) × (s * q + e ≡ p) → rate * p + m * q ≤ k .rate * p + k .burst * q
+      on (e, sum) = omega (arith, mul-le-mul-left q above, mul-le-mul-right e steep, ap (λ x. k .rate * x) sum, ap (λ x. rate * x) sum)
+
+-- The line meets the curve at whole tick s.
+module _ (f : List Bucket) (rate m s : ℕ) (meets : reads f s ≡ rate * s + m) where
+  -- no bucket is below the line there
+  not-below : {k : Bucket} → k ∈ f → rate * s + m ≤ bucketAt k s 1
+  unfolding reads
+  not-below n = le-trans (le-of-eq (sym meets)) (value-least f s 1 n)
+
+  -- up to s the cut is the line
+  pub cut-early : (p q : ℕ) → p ≤ s * q → cutAt f rate m p q ≡ rate * p + m * q
+  cut-early p q h = reached (cut-reached rate m p q f)
+    where
+      reached : CutReached f rate m p q → cutAt f rate m p q ≡ rate * p + m * q
+      reached (by-line e) = e
+      reached (by-slow k n slow e) =
+          le-antisymm (cut-line rate m p q f) (le-trans (flatter-before k rate m s (not-below n) p q slow h) (le-of-eq (sym e)))
+
+  -- from s on it is the smaller of curve and line
+  pub cut-late : 1 ≤ length f → (p q : ℕ) → s * q ≤ p → cutAt f rate m p q ≡ min (valueAt f p q) (rate * p + m * q)
+  cut-late some p q h = le-antisymm (le-min (below-value f p q below some) (cut-line rate m p q f)) (reached (cut-reached rate m p q f))
+    where
+      below : (k : Bucket) → k ∈ f → cutAt f rate m p q ≤ bucketAt k p q
+      below k n = split (le-or-lt (k .rate) rate)
+        where
+          split : (k .rate ≤ rate) ⊎ (rate < k .rate) → cutAt f rate m p q ≤ bucketAt k p q
+          split (inl slow) = cut-slow rate m p q n slow
+          split (inr fast) = le-trans (cut-line rate m p q f) (steeper-after k rate m s (not-below n) p q (le-of-lt fast) h)
+
+      reached : CutReached f rate m p q → min (valueAt f p q) (rate * p + m * q) ≤ cutAt f rate m p q
+      reached (by-line e) = le-trans (min-le-right _ _) (le-of-eq (sym e))
+      reached (by-slow k n slow e) = le-trans (min-le-left _ _) (le-trans (value-least f p q n) (le-of-eq (sym e)))
