@@ -2,10 +2,10 @@
 -- where M is the greatest of value(s) - R·s. With one tick less it fails: what is carried by tick 1 needs the latency, and the
 -- tick at which M is reached needs the quotient besides.
 -- Assumes nothing.
-use mathlib.Core.Path.{_≡_, _∙_, ap}
+use mathlib.Core.Path.{_≡_, ap}
 use mathlib.Core.List.{List}
 use Prim.Native.Nat.{ℕ, _+_, _-_, _*_, _≤_}
-use native.Mathlib.Nat.{le-dest, lt-of-mul-lt-mul-left, mul-add}
+use native.Mathlib.Nat.{le-dest, lt-of-mul-lt-mul-left}
 use native.Mathlib.Decide.{ℕ-discrete}
 use native.Mathlib.Omega.{arith}
 use lib.ListN.{length}
@@ -14,7 +14,7 @@ use Rattle.meaning.specs.Curve.{Bucket, bucketAt, tickValue, NormalForm}
 use Rattle.meaning.specs.Server.{Server, served, reads, Smallest, Excess, Delay, last}
 use Rattle.meaning.specs.Computed.{pick, delay}
 use Rattle.meaning.proofs.Value.{value-least, Reached, value-reached}
-use Rattle.meaning.proofs.Joining.{smallest-unique, rounded-up-is}
+use Rattle.meaning.proofs.Joining.{served-past, smallest-unique, rounded-up-is}
 use Rattle.meaning.proofs.Excess.{excess-is}
 
 -- a curve that carries nothing by tick 1 carries nothing by any tick
@@ -32,21 +32,13 @@ pub delay-of-nothing : (f : List Bucket) (s : Server) → 1 ≤ length f → rea
 delay-of-nothing f s some none =
     record { suffices = λ t. omega (arith, carries-nothing f some none t); smallest = λ d enough. omega arith }
 
--- what is served by a tick that is the latency and y later
-served-later : (s : Server) (t y : ℕ) → served s (t + (s .latency + y)) ≡ s .rate * t + s .rate * y
-unfolding served
-served-later s t y = ap (λ u. s .rate * u) sum ∙ mul-add _ _ _
-  where
-    sum : t + (s .latency + y) - s .latency ≡ t + y
-    sum = omega arith
-
 -- Any other curve, with M the greatest of value(s) - R·s, and x the quotient M/R rounded up:
 module _
     (f : List Bucket) (s : Server) {m : ℕ} (x : ℕ) (e : Excess f (s .rate) m) (rounded : Smallest (λ y. m ≤ s .rate * y) x)
   where
     -- latency and quotient suffice
     suffice : (t : ℕ) → reads f t ≤ served s (t + (s .latency + x))
-    suffice t = omega (arith, e .greatest t, rounded .suffices, served-later s t x)
+    suffice t = omega (arith, e .greatest t, rounded .suffices, served-past s {u = t + (s .latency + x)} (t + x) (omega arith))
 
     -- a number that suffices is not below the latency, by tick 1,
     latency-needed : (reads f 1 ≡ 0 → ⊥) → (d : ℕ) → reads f 1 ≤ served s (1 + d) → s .latency ≤ d
@@ -56,7 +48,9 @@ module _
 
     -- nor is what is over the latency below the quotient, by the tick at which M is reached
     quotient-needed : (y : ℕ) → reads f (e .at) ≤ served s (e .at + (s .latency + y)) → x ≤ y
-    quotient-needed y enough = rounded .smallest y (omega (arith, e .reached, served-later s (e .at) y))
+    quotient-needed y enough =
+        rounded .smallest y
+        (omega (arith, e .reached, served-past s {u = e .at + (s .latency + y)} (e .at + y) (omega arith)))
 
     -- so they are the delay
     pub delay-from-excess : (reads f 1 ≡ 0 → ⊥) → Delay f s (s .latency + x)

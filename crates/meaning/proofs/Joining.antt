@@ -2,7 +2,7 @@
 -- of what the first serves by the first part and the next by the rest; the order of joining does not matter; a quotient
 -- rounded up is the smallest number that suffices; and what the server left beside a cross curve serves, with that curve, the server had.
 -- Assumes nothing.
-use mathlib.Core.Path.{_≡_, refl, sym, _∙_}
+use mathlib.Core.Path.{_≡_, refl, sym, _∙_, ap}
 use mathlib.Core.Logic.{_⊎_, inl, inr}
 use mathlib.Core.List.{List, [], _∷_, List·Memᴰ·head, List·Memᴰ·tail}
 use Prim.Native.Nat.{ℕ, _+_, _-_, _*_, _≤_, _<_, min}
@@ -18,6 +18,14 @@ use Rattle.meaning.proofs.Value.{value-least}
 -- two servers of the same rate and latency are the same
 pub same-server : {s next : Server} → s .rate ≡ next .rate → s .latency ≡ next .latency → s ≡ next
 same-server p q = λ i. record { rate = p i; latency = q i }
+
+-- what is served by a tick that is y past the latency
+pub served-past : (s : Server) {u : ℕ} (y : ℕ) → u ≡ s .latency + y → served s u ≡ s .rate * y
+unfolding served
+served-past s {u} y e = ap (λ x. s .rate * x) past
+  where
+    past : u - s .latency ≡ y
+    past = omega arith
 
 -- n is the least of a(y) + b(t-y) over the whole y up to t
 pub record Convolution (a b : Instant → ℕ) (t n : ℕ) : Type 0 where
