@@ -1,24 +1,24 @@
 -- The profile file read back and written back: what is written reads as the same profile, and what is read is written again
 -- as the same bytes. No other outcome of reading or writing is right.
 -- Assumes nothing.
-use mathlib.Core.Path.{_≡_, refl, sym, _∙_, ap, ap₂, subst}
-use mathlib.Core.Bool.{true, false}
+use mathlib.Core.Path.{_≡_, refl, sym, _∙_, ap, ap₂}
 use mathlib.Core.Logic.{_⊎_, inl, inr, _≢_}
 use mathlib.Core.List.{List, [], _∷_, _++_, map, append-assoc, List·Memᴰ, List·Memᴰ·head, List·Memᴰ·tail, List·Memᴰ·cases-cons}
 use Prim.Native.Nat.{ℕ, zero, suc, _+_, _-_, _*_, _/_, _%_, _^_, _≤_, _<_}
-use native.Mathlib.Nat.{le-antisymm, zero-add, add-zero, le-refl, mul-le-mul, mul-add-mod-self-left, mod-lt, mod-eq-of-lt, mod-one, mul-add-div-right, mul-add-mod-self-right, two-pow-succ}
+use native.Mathlib.Nat.{lt-of-lt-of-le, le-antisymm, zero-add, add-zero, le-refl, mul-le-mul, mul-add-mod-self-left, mod-lt, mod-eq-of-lt, mod-one, mul-add-div-right, two-pow-succ}
 use native.Mathlib.Decide.{ℕ-discrete}
+use native.Mathlib.Numerals.{add-one}
 use native.Mathlib.Omega.{arith}
-use lib.Dec.{eqb}
-use lib.ListN.{length, take, drop, replicate, length-append, length-take, length-drop, take-append-drop, length-replicate}
-use lib.Seq.{take-at, drop-at, drop-drop, drop-append-seam, length-take-le}
-use lib.Pow.{pow-pos, high, mod-pow-add}
+use lib.ListN.{List·getD-append, getD, length, take, drop, replicate, length-append, length-take, length-drop, take-append-drop, length-replicate}
+use lib.Seq.{take-all, take-suc, getD-drop, getD-append-add, take-at, drop-at, drop-drop, drop-append-seam, length-take-le}
+use lib.Pow.{pow-pos, pow-mono, high, mod-pow-add}
 use borrow.Author.Tests.{eq-eqb, ne-eqb}
-use Rattle.meaning.specs.Curve.{Bucket, _∈_, flat, NormalForm}
+use Rattle.meaning.specs.Curve.{Bucket, _∈_, NormalForm}
 use Rattle.meaning.specs.Server.{Server}
-use Rattle.meaning.specs.Refusal.{Refusal, HEADER, LENGTH, PAD, RANGE, FORM, ROOM, number, Lines, _when_, _or_, Wins, Clear, AllInRange, over, Refused}
-use Rattle.meaning.specs.ServerQuestions.{ServerInRange, serverLines}
-use Rattle.meaning.specs.Profile.{bitsOf, spelt, Field, _bits_, packed, fileBits, bytesOf, edition, Profile, curve, server, kindOf, bucketFields, fields, profileBits, byteCount, written, field, bucketsIn, profileOf, padding, profileLines, fileLines, bucketsOf, numbersOf, Read, ReadOutcome, Wrote, WriteOutcome}
+use Rattle.meaning.specs.Refusal.{HEADER, LENGTH, PAD, Lines, Clear, InRange, AllInRange, Refused}
+use Rattle.meaning.specs.ServerQuestions.{ServerInRange}
+use Rattle.meaning.specs.Profile.{bitsOf, spelt, Field, _bits_, packed, fileBits, bytesOf, edition, Profile, curve, server, kindOf, bucketFields, fields, profileBits, byteCount, written, field, bucketsIn, profileOf, padding, profileLines, fileLines, ReadOutcome, WriteOutcome}
+use Rattle.meaning.proofs.Order.{le-or-lt}
 
 -- every number of the list is 0 or 1
 abbrev pub Binary : List ℕ → Type 0
@@ -64,18 +64,16 @@ unfolding bitsOf
 bits-below zero c x = refl
 bits-below (suc w) c x =
     let above : c * 2 ^ suc w + x ≡ 2 * c * 2 ^ w + x = omega (arith, ap (λ (y : ℕ). c * y) (two-pow-succ w)) in
-    let first : (2 * c * 2 ^ w + x) / 2 ^ w % 2 ≡ x / 2 ^ w % 2 =
-    ap (λ (y : ℕ). y % 2) (mul-add-div-right (pow-pos w) (2 * c) x) ∙ mul-add-mod-self-left 2 c (x / 2 ^ w) in
-    rw above (cc (first, bits-below w (2 * c) x))
+    let quotient = mul-add-div-right (pow-pos w) (2 * c) x in
+    rw above (cc (quotient, mul-add-mod-self-left 2 c (x / 2 ^ w), bits-below w (2 * c) x))
 
 -- a number's bits spell it
 spelt-mod : (w x : ℕ) → spelt (bitsOf w x) ≡ x % 2 ^ w
 unfolding spelt bitsOf
 spelt-mod zero x = sym (mod-one x)
 spelt-mod (suc w) x =
-    let this : x % 2 ^ suc w ≡ x / 2 ^ w % 2 * 2 ^ w + x % 2 ^ w =
-    ap (λ (n : ℕ). x % 2 ^ n) (omega arith) ∙ mod-pow-add x 1 w in
-    cc (length-bits w x, spelt-mod w x, this)
+    let more : suc w ≡ 1 + w = omega arith in
+    cc (length-bits w x, spelt-mod w x, more, mod-pow-add x 1 w)
 
 spelt-bits : (w x : ℕ) → x < 2 ^ w → spelt (bitsOf w x) ≡ x
 spelt-bits w x h = spelt-mod w x ∙ mod-eq-of-lt h
@@ -85,13 +83,17 @@ bits-spelt : (l : List ℕ) → Binary l → bitsOf (length l) (spelt l) ≡ l
 unfolding spelt bitsOf
 bits-spelt [] h = refl
 bits-spelt (b ∷ l) h =
-    let first : (b * 2 ^ length l + spelt l) / 2 ^ length l % 2 ≡ b =
-    ap (λ (y : ℕ). y % 2) (high b (length l) (spelt-fits l (h .1))) ∙ mod-eq-of-lt (h .0) in
-    cc (first, bits-below (length l) b (spelt l), bits-spelt l (h .1))
+    let quotient = high b (length l) (spelt-fits l (h .1)) in
+    cc (quotient, mod-eq-of-lt (h .0), bits-below (length l) b (spelt l), bits-spelt l (h .1))
 
 -- so many bits of a list, as a field
 bits-at : (w : ℕ) (l : List ℕ) → Binary l → w ≤ length l → bitsOf w (spelt (take w l)) ≡ take w l
 bits-at w l h fits = cc (bits-spelt (take w l) (binary-take w l h), length-take-le w l fits)
+
+-- one field more has its bits more
+length-packed : (w x : ℕ) (fs : List Field) → length (packed (w bits x ∷ fs)) ≡ w + length (packed fs)
+unfolding packed
+length-packed w x fs = length-append (bitsOf w x) (packed fs) ∙ ap (λ (n : ℕ). n + length (packed fs)) (length-bits w x)
 
 -- packed fields are bits
 binary-packed : (fs : List Field) → Binary (packed fs)
@@ -106,7 +108,7 @@ binary-file file = binary-packed _
 length-file-bits : (file : List ℕ) → length (fileBits file) ≡ 8 * length file
 unfolding fileBits packed
 length-file-bits [] = refl
-length-file-bits (x ∷ file) = omega (arith, length-append (bitsOf 8 x) (fileBits file), length-bits 8 x, length-file-bits file)
+length-file-bits (x ∷ file) = omega (arith, length-packed 8 x (map (_bits_ 8) file), length-file-bits file)
 
 -- so many bits before the rest, taken and dropped
 bits-taken : (w x : ℕ) (rest : List ℕ) → take w (bitsOf w x ++ rest) ≡ bitsOf w x
@@ -169,20 +171,15 @@ unfolding field packed
 stands-packed file at [] fits h = rw add-zero
 stands-packed file at (w bits x ∷ fs) fits h =
     let all = fileBits file in
-    let size : length (bitsOf w x ++ packed fs) ≡ w + length (packed fs) =
-    length-append (bitsOf w x) (packed fs) ∙ ap (λ (n : ℕ). n + length (packed fs)) (length-bits w x) in
+    let size = length-packed w x fs in
     let inside : w ≤ length (drop at all) = omega (arith, length-drop at all, length-file-bits file) in
-    let here : bitsOf w x ≡ take w (drop at all) =
-    cc (h .0, bits-at w (drop at all) (binary-drop at all (binary-file file)) inside) in
-    let further : at + w + length (packed fs) ≡ at + length (bitsOf w x ++ packed fs) = omega arith in
-    let next : drop w (drop at all) ≡ packed fs ++ drop (at + length (bitsOf w x ++ packed fs)) all =
-    drop-drop w at all
-    ∙ stands-packed file (at + w) fs (omega arith) (h .1)
-    ∙ ap (λ (n : ℕ). packed fs ++ drop n all) further in
-    sym (take-append-drop w (drop at all)) ∙ ap₂ (λ a b. a ++ b) (sym here) next ∙ sym (append-assoc (bitsOf w x) (packed fs) _)
+    let here = bits-at w (drop at all) (binary-drop at all (binary-file file)) inside in
+    let further : at + length (packed (w bits x ∷ fs)) ≡ at + w + length (packed fs) = omega arith in
+    let next = stands-packed file (at + w) fs (omega arith) (h .1) in
+    rw (append-assoc, further) (cc (take-append-drop w (drop at all), h .0, here, drop-drop w at all, next))
 
 -- so many zero bits: bits with no 1 among them, as no others are
-abbrev zeroBits : ℕ → List ℕ
+abbrev pub zeroBits : ℕ → List ℕ
 zeroBits n = replicate n 0
 
 binary-zeros : (n : ℕ) → Binary (zeroBits n)
@@ -218,22 +215,28 @@ pub written-length : (p : Profile) → length (written p) ≡ byteCount p
 unfolding written
 written-length p = length-bytes _ _
 
--- how many bits there are up to the byte's end
-abbrev padWidth : Profile → ℕ
+-- how many bits there are up to the byte's end, and the bits with them
+abbrev pub padWidth : Profile → ℕ
 padWidth p = 8 * byteCount p - length (profileBits p)
 
-pub written-bits : (p : Profile) → fileBits (written p) ≡ profileBits p ++ zeroBits (padWidth p)
-unfolding written byteCount profileBits
-written-bits p =
-    bits-of-bytes (byteCount p) (profileBits p ++ zeroBits (padWidth p))
-    (binary-append (profileBits p) (zeroBits (padWidth p)) (binary-packed (fields p)) (binary-zeros (padWidth p)))
-    (omega (arith, length-append (profileBits p) (zeroBits (padWidth p)), length-replicate {A = ℕ} (padWidth p) 0))
+abbrev pub padded : Profile → List ℕ
+padded p = profileBits p ++ zeroBits (padWidth p)
+
+binary-padded : (p : Profile) → Binary (padded p)
+unfolding profileBits
+binary-padded p =
+    binary-append (profileBits p) (zeroBits (padWidth p)) (binary-packed (fields p)) (binary-zeros (padWidth p))
+
+length-padded : (p : Profile) → length (padded p) ≡ 8 * byteCount p
+unfolding byteCount
+length-padded p =
+    omega (arith, length-append (profileBits p) (zeroBits (padWidth p)), length-replicate {A = ℕ} (padWidth p) 0)
+
+pub written-bits : (p : Profile) → fileBits (written p) ≡ padded p
+unfolding written
+written-bits p = bits-of-bytes (byteCount p) (padded p) (binary-padded p) (length-padded p)
 
 -- how many bits and bytes
-length-packed : (w x : ℕ) (fs : List Field) → length (packed (w bits x ∷ fs)) ≡ w + length (packed fs)
-unfolding packed
-length-packed w x fs = length-append (bitsOf w x) (packed fs) ∙ ap (λ (n : ℕ). n + length (packed fs)) (length-bits w x)
-
 no-bits : length (packed []) ≡ 0
 unfolding packed
 no-bits = refl
@@ -261,7 +264,7 @@ unfolding byteCount
 server-bytes s = omega (arith, written-length (server s), server-bits s)
 
 -- the buckets of a file are so many, and stand in it; those that stand in it are its buckets
-length-buckets-in : (file : List ℕ) (at n : ℕ) → length (bucketsIn file at n) ≡ n
+pub length-buckets-in : (file : List ℕ) (at n : ℕ) → length (bucketsIn file at n) ≡ n
 unfolding bucketsIn
 length-buckets-in file at zero = refl
 length-buckets-in file at (suc n) = ap suc (length-buckets-in file (at + 60) n)
@@ -290,11 +293,11 @@ standing-buckets file at (k ∷ f) h =
     cc (same-bucket k (h .0) (h .1 .0), standing-buckets file (at + 60) f rest)
 
 -- the profile that a file holds, by its kind
-held-curve : (file : List ℕ) → field file 4 4 ≡ 1 → profileOf file ≡ curve (bucketsIn file 14 (field file 8 6 + 1))
+pub held-curve : (file : List ℕ) → field file 4 4 ≡ 1 → profileOf file ≡ curve (bucketsIn file 14 (field file 8 6 + 1))
 unfolding profileOf
 held-curve file e = rw (eq-eqb (field file 4 4) 1 e)
 
-held-server :
+pub held-server :
     (file : List ℕ) → field file 4 4 ≢ 1
     → profileOf file ≡ server (record { rate = field file 8 20; latency = field file 28 20 })
 unfolding profileOf
@@ -409,22 +412,27 @@ read-back-server s ranged = reads-back (server s) stands same sound
     sound : Clear (profileLines (server s))
     sound r h = h .1 ranged
 
--- a file of bytes in which the fields of the profile that it holds stand, of the byte count required and with no 1 in the
--- padding, is that profile's file
+-- every number of the file is a byte
 abbrev pub Bytes : List ℕ → Type 0
 Bytes file = (x : ℕ) → List·Memᴰ x file → x < 256
 
+-- the padding is bits, as many as there are up to the byte's end
+pub binary-padding : (file : List ℕ) → Binary (padding file)
+unfolding padding
+binary-padding file = binary-drop (length (profileBits (profileOf file))) (fileBits file) (binary-file file)
+
+padding-width :
+    (file : List ℕ) → length file ≡ byteCount (profileOf file) → length (padding file) ≡ padWidth (profileOf file)
+unfolding padding
+padding-width file whole =
+    length-drop (length (profileBits (profileOf file))) (fileBits file)
+    ∙ ap (λ (n : ℕ). n - length (profileBits (profileOf file))) (length-file-bits file ∙ ap (λ (n : ℕ). 8 * n) whole)
+
+-- a file of bytes in which the fields of the profile that it holds stand, of the byte count required and with no 1 in the
+-- padding, is that profile's file
 module _ (file : List ℕ) (whole : length file ≡ byteCount (profileOf file)) (no-one : List·Memᴰ 1 (padding file) → ⊥) where
   padding-zeros : padding file ≡ zeroBits (padWidth (profileOf file))
-  unfolding padding
-  padding-zeros =
-      no-one-zeros (padding file) (binary-drop (length (profileBits (profileOf file))) (fileBits file) (binary-file file)) no-one
-      ∙ ap zeroBits width
-    where
-      width : length (padding file) ≡ padWidth (profileOf file)
-      width =
-          length-drop (length (profileBits (profileOf file))) (fileBits file)
-          ∙ ap (λ (n : ℕ). n - length (profileBits (profileOf file))) (length-file-bits file ∙ ap (λ (n : ℕ). 8 * n) whole)
+  padding-zeros = no-one-zeros (padding file) (binary-padding file) no-one ∙ ap zeroBits (padding-width file whole)
 
   standing-written : Stands file 0 (fields (profileOf file)) → Bytes file → written (profileOf file) ≡ file
   unfolding written padding profileBits byteCount
@@ -433,10 +441,8 @@ module _ (file : List ℕ) (whole : length file ≡ byteCount (profileOf file)) 
       p : Profile
       p = profileOf file
 
-      all : fileBits file ≡ profileBits p ++ zeroBits (padWidth p)
-      all =
-          stands-packed file 0 (fields p) (omega arith) stands
-          ∙ rw (zero-add, padding-zeros)
+      all : fileBits file ≡ padded p
+      all = stands-packed file 0 (fields p) (omega arith) stands ∙ rw (zero-add, padding-zeros)
 
 -- two numbers that are not apart are equal
 not-apart : (a b : ℕ) → (a ≢ b → ⊥) → a ≡ b
@@ -561,3 +567,130 @@ pub p11-curve :
     ≡ 0x11 ∷ 0x00 ∷ 0x00 ∷ 0x02 ∷ 0x80 ∷ 0x00 ∷ 0x00 ∷ 0x00 ∷ 0x00 ∷ 0x80 ∷ []
 unfolding written byteCount profileBits fields bucketFields packed bitsOf spelt bytesOf
 p11-curve = refl
+
+-- ---- The bits of a file by their positions, for a reader that takes one after the other.
+
+-- a field's number fits it
+pub field-fits : (file : List ℕ) (at w : ℕ) → field file at w < 2 ^ w
+unfolding field
+field-fits file at w =
+    let l = take w (drop at (fileBits file)) in
+    lt-of-lt-of-le (spelt-fits l (binary-take w (drop at (fileBits file)) (binary-drop at (fileBits file) (binary-file file))))
+    (pow-mono (omega (arith, length-take w (drop at (fileBits file)))))
+
+-- the bucket of a file that begins at a bit
+abbrev pub bucketFrom : List ℕ → ℕ → Bucket
+bucketFrom file at = record { rate = field file at 20; burst = field file (at + 20) 40 }
+
+-- the buckets of a file are in range
+pub buckets-in-range : (file : List ℕ) (at n : ℕ) → AllInRange (bucketsIn file at n)
+unfolding bucketsIn
+buckets-in-range file at zero k m = elim m [ ]
+buckets-in-range file at (suc n) k m = split (λ t. buckets-in-range file (at + 60) n k t) (List·Memᴰ·cases-cons m)
+  where
+    split : (k ∈ bucketsIn file (at + 60) n → InRange k) → (k ≡ bucketFrom file at) ⊎ (k ∈ bucketsIn file (at + 60) n) → InRange k
+    split rest (inl e) = rw e (record { rate-fits = field-fits file at 20; burst-fits = field-fits file (at + 20) 40 })
+    split rest (inr t) = rest t
+
+-- one bucket more
+pub buckets-in-next :
+    (file : List ℕ) (at n : ℕ) → bucketsIn file at (suc n) ≡ bucketsIn file at n ++ bucketFrom file (at + 60 * n) ∷ []
+unfolding bucketsIn
+buckets-in-next file at zero = simp add-zero
+buckets-in-next file at (suc n) =
+    let further : at + 60 * suc n ≡ at + 60 + 60 * n = omega arith in
+    rw further (ap (λ (f : List Bucket). bucketFrom file at ∷ f) (buckets-in-next file (at + 60) n))
+
+-- one bit more doubles what the bits spell
+spelt-next : (l : List ℕ) (b : ℕ) → spelt (l ++ b ∷ []) ≡ spelt l * 2 + b
+unfolding spelt
+spelt-next [] b = omega arith
+spelt-next (x ∷ l) b =
+    omega (
+      arith,
+      spelt-next l b,
+      ap (λ (n : ℕ). x * 2 ^ n) (length-append l (b ∷ []) ∙ add-one (length l)),
+      ap (λ (y : ℕ). x * y) (two-pow-succ (length l)),
+    )
+
+pub field-next :
+    (file : List ℕ) (at w : ℕ) → at + w < 8 * length file
+    → field file at (w + 1) ≡ field file at w * 2 + getD (fileBits file) (at + w) 0
+unfolding field
+field-next file at w h =
+    let inside : w < length (drop at (fileBits file)) = omega (arith, length-drop at (fileBits file), length-file-bits file) in
+    rw (add-one, take-suc (drop at (fileBits file)) w 0, spelt-next, getD-drop)
+
+-- the bit at a position is one of its byte's
+bit-of-number : (w x i : ℕ) → i < w → getD (bitsOf w x) i 0 ≡ x / 2 ^ (w - 1 - i) % 2
+unfolding bitsOf
+bit-of-number zero x i h = absurd (omega arith)
+bit-of-number (suc w) x zero h = ap (λ (n : ℕ). x / 2 ^ n % 2) (omega arith)
+bit-of-number (suc w) x (suc i) h = bit-of-number w x i (omega arith) ∙ ap (λ (n : ℕ). x / 2 ^ n % 2) (omega arith)
+
+pub bit-at : (file : List ℕ) (at : ℕ) → at < 8 * length file → getD (fileBits file) at 0 ≡ getD file (at / 8) 0 / 2 ^ (7 - at % 8) % 2
+unfolding fileBits packed
+bit-at [] at h = absurd (omega arith)
+bit-at (x ∷ file) at h = split (λ l. bit-at file (at - 8) l) (le-or-lt 8 at)
+  where
+    split :
+        (at - 8 < 8 * length file → getD (fileBits file) (at - 8) 0 ≡ getD file ((at - 8) / 8) 0 / 2 ^ (7 - (at - 8) % 8) % 2)
+        → (8 ≤ at) ⊎ (at < 8)
+        → getD (bitsOf 8 x ++ fileBits file) at 0 ≡ getD (x ∷ file) (at / 8) 0 / 2 ^ (7 - at % 8) % 2
+    split rest (inl past) =
+        let from : at ≡ length (bitsOf 8 x) + (at - 8) = omega (arith, length-bits 8 x) in
+        let byte : at / 8 ≡ suc ((at - 8) / 8) = omega arith in
+        let bit : at % 8 ≡ (at - 8) % 8 = omega arith in
+        ap (λ (n : ℕ). getD (bitsOf 8 x ++ fileBits file) n 0) from
+        ∙ getD-append-add (bitsOf 8 x) (fileBits file) (at - 8) 0
+        ∙ rest (omega arith)
+        ∙ rw (byte, bit)
+    split rest (inr here) =
+        let byte : at / 8 ≡ 0 = omega arith in
+        let bit : at % 8 ≡ at = omega arith in
+        List·getD-append (bitsOf 8 x) (fileBits file) 0 at (omega (arith, length-bits 8 x))
+        ∙ bit-of-number 8 x at here
+        ∙ rw (byte, bit)
+
+-- bits spell 0 exactly where no 1 is among them
+pub one-spelt : {l : List ℕ} → List·Memᴰ 1 l → 1 ≤ spelt l
+unfolding spelt
+one-spelt (List·Memᴰ·head {x = x} {xs = l} e) = rw (← e) (omega (arith, pow-pos (length l)))
+one-spelt (List·Memᴰ·tail m) = omega (arith, one-spelt m)
+
+pub spelt-one : (l : List ℕ) → Binary l → 1 ≤ spelt l → List·Memᴰ 1 l
+unfolding spelt
+spelt-one [] h some = absurd (omega arith)
+spelt-one (b ∷ l) h some = split (λ p. spelt-one l (h .1) p) (ℕ-discrete b 1)
+  where
+    split : (1 ≤ spelt l → List·Memᴰ 1 l) → Dec (b ≡ 1) → List·Memᴰ 1 (b ∷ l)
+    split rest (yes e) = List·Memᴰ·head (sym e)
+    split rest (no n) = List·Memᴰ·tail (rest (omega (arith, ap (λ (c : ℕ). c * 2 ^ length l) zero-bit)))
+      where
+        zero-bit : b ≡ 0
+        zero-bit = omega (arith, n)
+
+-- the padding of a file of the byte count required, as one more field
+pub padding-field :
+    (file : List ℕ) → length file ≡ byteCount (profileOf file)
+    → field file (length (profileBits (profileOf file))) (padWidth (profileOf file)) ≡ spelt (padding file)
+unfolding field padding
+padding-field file whole = ap spelt (take-all (padWidth (profileOf file)) (padding file) (omega (arith, padding-width file whole)))
+
+-- what is written is bytes, each of its eight bits
+spelt-byte : (l : List ℕ) → Binary l → spelt (take 8 l) < 256
+spelt-byte l h =
+    lt-of-lt-of-le (spelt-fits (take 8 l) (binary-take 8 l h)) (pow-mono {j = 8} (omega (arith, length-take 8 l)))
+
+bytes-are-bytes : (n : ℕ) (l : List ℕ) → Binary l → Bytes (bytesOf n l)
+unfolding bytesOf
+bytes-are-bytes zero l h x m = elim m [ ]
+bytes-are-bytes (suc n) l h x m = split (λ t. bytes-are-bytes n (drop 8 l) (binary-drop 8 l h) x t) (List·Memᴰ·cases-cons m)
+  where
+    split : (List·Memᴰ x (bytesOf n (drop 8 l)) → x < 256) → (x ≡ spelt (take 8 l)) ⊎ List·Memᴰ x (bytesOf n (drop 8 l)) → x < 256
+    split rest (inl e) = rw e (spelt-byte l h)
+    split rest (inr t) = rest t
+
+pub written-bytes : (p : Profile) → Bytes (written p)
+unfolding written
+written-bytes p = bytes-are-bytes (byteCount p) (padded p) (binary-padded p)

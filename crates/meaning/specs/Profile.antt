@@ -42,28 +42,34 @@ unfoldable pub bytesOf : ℕ → List ℕ → List ℕ
 bytesOf zero l = []
 bytesOf (suc n) l = spelt (take 8 l) ∷ bytesOf n (drop 8 l)
 
--- Edition (1).
+-- Edition (1). Kind 1, curve. Kind 2, server.
 abbrev pub edition : ℕ
 edition = 1
 
--- A file holds one profile. Kind 1, curve. Kind 2, server.
+abbrev pub curveKind : ℕ
+curveKind = 1
+
+abbrev pub serverKind : ℕ
+serverKind = 2
+
+-- A file holds exactly one profile.
 pub data Profile : Type 0 where
   curve : List Bucket → Profile
   server : Server → Profile
 
 abbrev pub kindOf : Profile → ℕ
-kindOf (curve f) = 1
-kindOf (server s) = 2
+kindOf (curve f) = curveKind
+kindOf (server s) = serverKind
 
 -- For each bucket 20 bits rate and 40 bits burst.
 unfoldable pub bucketFields : List Bucket → List Field
 bucketFields [] = []
 bucketFields (k ∷ f) = 20 bits k .rate ∷ 40 bits k .burst ∷ bucketFields f
 
--- First 4 bits edition, next 4 bits kind. A curve: 6 bits count minus one, and the buckets. A server: 20 bits rate, 20 bits latency.
+-- First 4 bits edition, next 4 bits kind. Curve: 6 bits count minus one; the buckets. Server: 20 bits rate, 20 bits latency.
 unfoldable pub fields : Profile → List Field
-fields (curve f) = 4 bits edition ∷ 4 bits kindOf (curve f) ∷ 6 bits (length f - 1) ∷ bucketFields f
-fields (server s) = 4 bits edition ∷ 4 bits kindOf (server s) ∷ 20 bits s .rate ∷ 20 bits s .latency ∷ []
+fields (curve f) = 4 bits edition ∷ 4 bits curveKind ∷ 6 bits (length f - 1) ∷ bucketFields f
+fields (server s) = 4 bits edition ∷ 4 bits serverKind ∷ 20 bits s .rate ∷ 20 bits s .latency ∷ []
 
 -- The bits before padding.
 unfoldable pub profileBits : Profile → List ℕ
@@ -87,15 +93,15 @@ bucketsIn file at zero = []
 bucketsIn file at (suc n) =
     record { rate = field file at 20; burst = field file (at + 20) 40 } ∷ bucketsIn file (at + 60) n
 
--- The profile that a file holds: of kind 1 a curve, or else a server.
+-- The profile that a file holds: of kind 1 a curve, or else a server. Its fields stand one after the other.
 unfoldable pub profileOf : List ℕ → Profile
-profileOf file = ofKind (eqb (field file 4 4) 1)
+profileOf file = ofKind (eqb (field file 4 4) curveKind)
   where
     ofKind : Bool → Profile
     ofKind true = curve (bucketsIn file 14 (field file 8 6 + 1))
     ofKind false = server (record { rate = field file 8 20; latency = field file 28 20 })
 
--- The bits after the profile's.
+-- The padding bits: those after the profile's.
 unfoldable pub padding : List ℕ → List ℕ
 padding file = drop (length (profileBits (profileOf file))) (fileBits file)
 
@@ -108,8 +114,8 @@ profileLines (server s) = serverLines s
 -- a padding bit is 1; the lines of the profile that it holds.
 abbrev pub fileLines : List ℕ → Lines
 fileLines file =
-    HEADER when ((length file ≡ 0) ⊎ (field file 0 4 ≢ edition) ⊎ ((field file 4 4 ≢ 1) × (field file 4 4 ≢ 2)))
-    or LENGTH when ((length file ≢ byteCount (profileOf file)) ⊎ ((field file 4 4 ≡ 1) × (length file ≡ 1)))
+    HEADER when ((length file ≡ 0) ⊎ (field file 0 4 ≢ edition) ⊎ ((field file 4 4 ≢ curveKind) × (field file 4 4 ≢ serverKind)))
+    or LENGTH when ((length file ≢ byteCount (profileOf file)) ⊎ ((field file 4 4 ≡ curveKind) × (length file ≡ 1)))
     or PAD when List·Memᴰ 1 (padding file)
     or profileLines (profileOf file)
 
