@@ -47,7 +47,8 @@ abbrev pub Single {ℓ} : {X : Type ℓ} → (X → Type 0) → Type ℓ
 Single {X = X} Answer = (f g : X) → Answer f → Answer g → f ≡ g
 
 module _ {lines : Lines} {before : List ℕ} where
-  refused-once :
+  -- what is refused is refused with one number, and leaves one list
+  pub refused-once :
       {after after′ : List ℕ} {code figure code′ figure′ : ℕ}
       → Refused lines before after code figure → Refused lines before after′ code′ figure′
       → Same code figure code′ figure′ after after′

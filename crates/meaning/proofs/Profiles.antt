@@ -13,6 +13,7 @@ use lib.ListN.{List·getD-append, getD, length, take, drop, replicate, length-ap
 use lib.Seq.{take-all, take-suc, getD-drop, getD-append-add, take-at, drop-at, drop-drop, drop-append-seam, length-take-le}
 use lib.Pow.{pow-pos, pow-mono, high, mod-pow-add}
 use borrow.Author.Tests.{eq-eqb, ne-eqb}
+use Rattle.meaning.proofs.Outcomes.{Same, refused-once, refused-or-clear}
 use Rattle.meaning.specs.Curve.{Bucket, _∈_, NormalForm}
 use Rattle.meaning.specs.Server.{Server}
 use Rattle.meaning.specs.Refusal.{HEADER, LENGTH, PAD, Lines, Clear, InRange, AllInRange, Refused}
@@ -483,19 +484,6 @@ write-back file bytes clear = standing-written file whole no-one (split (ℕ-dis
     split (no other) =
         server-stands file first (not-apart _ _ (λ h. clear HEADER (inl (inl (inl (refl, inr (inr (other, h))))))))
 
--- what is refused is refused with one number, and leaves one list
-module _ {lines : Lines} {before : List ℕ} where
-  refused-code :
-      {after after′ : List ℕ} {code figure code′ figure′ : ℕ}
-      → Refused lines before after code figure → Refused lines before after′ code′ figure′ → code ≡ code′
-  refused-code v w =
-      v .code-is
-      ∙ le-antisymm (v .wins .smallest (w .why) (w .wins .holds)) (w .wins .smallest (v .why) (v .wins .holds))
-      ∙ sym (w .code-is)
-
-  not-clear : {after : List ℕ} {code figure : ℕ} → Refused lines before after code figure → Clear lines → ⊥
-  not-clear v clear = clear (v .why) (v .wins .holds)
-
 -- no other outcome of reading is right: the list, the code and each figure are the same
 pub record SameRead (after after′ : List ℕ) (code kind count rate latency code′ kind′ count′ rate′ latency′ : ℕ) : Type 0 where
   pub after-same : after ≡ after′
@@ -513,14 +501,14 @@ pub one-read :
 one-read (ReadOutcome.refused v c r t) (ReadOutcome.refused w c′ r′ t′) =
     record {
       after-same = v .kept ∙ sym (w .kept);
-      code-same = refused-code v w;
+      code-same = refused-once v w .code-same;
       kind-same = v .figure-is ∙ sym (w .figure-is);
       count-same = c ∙ sym c′;
       rate-same = r ∙ sym r′;
       latency-same = t ∙ sym t′;
     }
-one-read (ReadOutcome.refused v c r t) (ReadOutcome.answered w) = absurd (not-clear v (w .clear))
-one-read (ReadOutcome.answered v) (ReadOutcome.refused w c r t) = absurd (not-clear w (v .clear))
+one-read (ReadOutcome.refused v c r t) (ReadOutcome.answered w) = absurd (refused-or-clear v (w .clear))
+one-read (ReadOutcome.answered v) (ReadOutcome.refused w c r t) = absurd (refused-or-clear w (v .clear))
 one-read (ReadOutcome.answered v) (ReadOutcome.answered w) =
     record {
       after-same = v .output ∙ sym (w .output);
@@ -532,28 +520,18 @@ one-read (ReadOutcome.answered v) (ReadOutcome.answered w) =
     }
 
 -- no other outcome of writing is right: the buffer, the code and the byte count are the same
-pub record SameWrite (after after′ : List ℕ) (code count code′ count′ : ℕ) : Type 0 where
-  pub after-same : after ≡ after′
-  pub code-same : code ≡ code′
-  pub count-same : count ≡ count′
-
 pub one-write :
     {operand : Lines} {p : Profile} {before after after′ : List ℕ} {code count code′ count′ : ℕ}
     → WriteOutcome operand p before after code count → WriteOutcome operand p before after′ code′ count′
-    → SameWrite after after′ code count code′ count′
-one-write (WriteOutcome.refused v) (WriteOutcome.refused w) =
-    record {
-      after-same = v .kept ∙ sym (w .kept);
-      code-same = refused-code v w;
-      count-same = v .figure-is ∙ sym (w .figure-is);
-    }
-one-write (WriteOutcome.refused v) (WriteOutcome.answered w) = absurd (not-clear v (w .clear))
-one-write (WriteOutcome.answered v) (WriteOutcome.refused w) = absurd (not-clear w (v .clear))
+    → Same code count code′ count′ after after′
+one-write (WriteOutcome.refused v) (WriteOutcome.refused w) = refused-once v w
+one-write (WriteOutcome.refused v) (WriteOutcome.answered w) = absurd (refused-or-clear v (w .clear))
+one-write (WriteOutcome.answered v) (WriteOutcome.refused w) = absurd (refused-or-clear w (v .clear))
 one-write (WriteOutcome.answered v) (WriteOutcome.answered w) =
     record {
       after-same = v .output ∙ sym (w .output);
       code-same = v .code-is ∙ sym (w .code-is);
-      count-same = v .count-is ∙ sym (w .count-is);
+      figure-same = v .count-is ∙ sym (w .count-is);
     }
 
 -- P11: server (6,1) as a file is 12 00 00 60 00 01; curve {(10,2)} is 11 00 00 02 80 00 00 00 00 80
