@@ -18,11 +18,17 @@ unfoldable pub summing : List ℕ → List ℕ → Question
 summing f g = record { operands = curveLines f or curveLines g; Answer = Sum (buckets f) (buckets g) }
 
 -- The link's rate is 1 to 2^20-1.
-unfoldable pub shaping : List ℕ → ℕ → Question
-shaping f d =
-    record { operands = curveLines f or RANGE when ((d ≡ 0) ⊎ (2 ^ 20 ≤ d)); Answer = Shape (buckets f) d }
+abbrev pub linkLine : ℕ → Lines
+linkLine d = RANGE when ((d ≡ 0) ⊎ (2 ^ 20 ≤ d))
 
--- value: the curve's value at a tick from 0 to 2^40-1.
+unfoldable pub shaping : List ℕ → ℕ → Question
+shaping f d = record { operands = curveLines f or linkLine d; Answer = Shape (buckets f) d }
+
+-- A tick is 0 to 2^40-1.
+abbrev pub tickLine : ℕ → Lines
+tickLine t = RANGE when (2 ^ 40 ≤ t)
+
+-- value: the curve's value at a tick.
 unfoldable pub ValueOutcome : List ℕ → ℕ → ℕ → ℕ → Type 0
 ValueOutcome f t code figure =
-    FigureOutcome (curveLines f or RANGE when (2 ^ 40 ≤ t)) (λ v. v ≡ tickValue (buckets f) t) code figure
+    FigureOutcome (curveLines f or tickLine t) (λ v. v ≡ tickValue (buckets f) t) code figure
