@@ -1,5 +1,6 @@
 -- The table of figures, proved of the written definitions: each row is what the laws say of the computed forms, worked out.
 -- The route program's row is put together from one lemma for each profile that is read and each hop that is passed.
+-- Last, which refusal an odd list gets.
 -- Assumes nothing.
 use mathlib.Core.Path.{_≡_, refl, ap, subst}
 use mathlib.Core.Bool.{true}
@@ -61,6 +62,7 @@ sound l h form =
       form = neighbours-sound (buckets l) form;
     }
 
+-- the curves of the table: C, and those of one bucket
 c-sound : Sound (10 ∷ 2 ∷ 3 ∷ 20 ∷ [])
 unfolding buckets isNormal
 c-sound = sound _ (omega arith) refl
@@ -111,6 +113,7 @@ record Begins (input : List ℕ) (p : Profile) (rest : List ℕ) : Type 0 where
   file : firstFile input ≡ written p
   after : afterFirst input ≡ rest
 
+-- so none of the lines of what is due holds, and the input has not ended
 module _ {input rest : List ℕ} where
   due-clear : {p : Profile} → ReadsBack p → Begins input p rest → Clear (dueLines (kindOf p) input)
   due-clear back b = clear-or (λ r h. h .1 (b .kind)) (rw (b .file) (back .clear))
@@ -132,6 +135,7 @@ record Passes (f : List Bucket) (before : Option Server) (s : Server) (here : Fi
   curve : Behind f s g
   fits : TooLarge g → ⊥
 
+-- and the report goes on with the curve behind
 module _
     {f g : List Bucket} {before : Option Server} {input rest : List ℕ} {s : Server} {here : Figures}
     (b : Begins input (server s) rest) (p : Passes f before s here g)
@@ -183,7 +187,7 @@ worked :
 worked s c slow some-rate =
     (behind-is _ s (c .form) slow, backlog-is _ s (c .form) slow, delay-is s (c .form) slow some-rate)
 
--- P1 to P12
+-- the figures P1 to P12
 pub table : Table
 unfolding buckets flat pairs normal last valueAt Crossing behind backlog delay residual join written byteCount profileBits fields bucketFields packed bitsOf spelt bytesOf field fileBits bucketsIn profileOf firstFile afterFirst bytes text
 table =
