@@ -7,3 +7,4 @@ pub mod ServerQuestions
 pub mod Profile
 pub mod Computed
 pub mod Route
+pub mod Figures
