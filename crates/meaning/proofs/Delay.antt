@@ -54,7 +54,7 @@ module _
 
     -- so they are the delay
     pub delay-from-excess : (reads f 1 ≡ 0 → ⊥) → Delay f s (s .latency + x)
-    delay-from-excess some = record { suffices = suffice; smallest = smallest }
+    delay-from-excess some = record { suffices = λ t. omega (arith, suffice t); smallest = smallest }
       where
         smallest : (d : ℕ) → ((t : ℕ) → reads f t ≤ served s (t + d)) → s .latency + x ≤ d
         smallest d enough = over (le-dest (latency-needed some d (enough 1)))

@@ -17,8 +17,8 @@ use Rattle.meaning.specs.Refusal.{LIST, COUNT, RANGE, UNBOUNDED, number,
 use Rattle.meaning.specs.ServerQuestions.{ServerInRange, serverLines, portLines, passing, BacklogOutcome, DelayOutcome}
 use Rattle.meaning.specs.Profile.{bitsOf, spelt, packed, fileBits, bytesOf, Profile, curve, server, kindOf, bucketFields, fields, profileBits, byteCount, written, field, bucketsIn, profileOf}
 use Rattle.meaning.specs.Computed.{isNormal, normal, behind, backlog, delay, residual}
-use Rattle.meaning.specs.Route.{firstFile, afterFirst, dueLines, joinLines, joinedWith, hopLines, Figures, FiguresOf, Report, Onward, Reported, text, Route}
-use Rattle.meaning.specs.Figures.{C, port, bytes, Table}
+use Rattle.meaning.specs.Route.{bytes, firstFile, afterFirst, dueLines, joinLines, joinedWith, hopLines, Figures, FiguresOf, Report, Onward, Reported, text, Route}
+use Rattle.meaning.specs.Figures.{C, port, Table}
 use Rattle.meaning.proofs.Neighbours.{neighbours-sound}
 use Rattle.meaning.proofs.Normal.{normal-is}
 use Rattle.meaning.proofs.Outcomes.{from-when, from-or, up-to-or, up-to-when, clear-or, line-hit, refused-then, refusal, refuse-in-part}

@@ -4,14 +4,12 @@
 use mathlib.Core.Path.{_≡_}
 use mathlib.Core.List.{List, [], _∷_, _++_}
 use Prim.Native.Nat.{ℕ, _≤_, _<_}
-use Prim.Native.Char.{code}
-use Prim.Native.String.{String}
 use Rattle.meaning.specs.Curve.{Bucket, buckets, valueAt, tickValue, NormalOf, Crossing, Sum}
 use Rattle.meaning.specs.Server.{Server, join, Behind, Backlog, Delay, Residual}
 use Rattle.meaning.specs.Refusal.{PartOutcome}
 use Rattle.meaning.specs.ServerQuestions.{passing, BacklogOutcome, DelayOutcome}
 use Rattle.meaning.specs.Profile.{curve, server, written}
-use Rattle.meaning.specs.Route.{Route}
+use Rattle.meaning.specs.Route.{bytes, Route}
 
 -- Let C be {(10,2),(3,20)}.
 abbrev pub C : List Bucket
@@ -20,11 +18,6 @@ C = buckets (10 ∷ 2 ∷ 3 ∷ 20 ∷ [])
 -- The server (rate, latency).
 abbrev pub port : ℕ → ℕ → Server
 port rate latency = record { rate = rate; latency = latency }
-
--- A text as bytes.
-unfoldable pub bytes : String → List ℕ
-bytes String.[] = []
-bytes (String._∷_ c s) = code c ∷ bytes s
 
 -- A row for each figure, as document 01 gives it.
 pub record Table : Type 0 where

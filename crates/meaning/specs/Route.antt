@@ -5,6 +5,8 @@ use mathlib.Core.Logic.{_≢_}
 use mathlib.Core.Option.{Option, none, some}
 use mathlib.Core.List.{List, [], _∷_, _++_}
 use Prim.Native.Nat.{ℕ, zero, suc, _+_, _/_, _%_, _<_}
+use Prim.Native.Char.{code}
+use Prim.Native.String.{String}
 use lib.Dec.{ltb}
 use lib.ListN.{length, take, drop}
 use Rattle.meaning.specs.Curve.{Bucket, flat}
@@ -89,30 +91,34 @@ pub data Reported (input : List ℕ) (report : Report) : Type 0 where
       → Onward (bucketsOf (profileOf input)) [] none (bucketsOf (profileOf input)) (afterFirst input) report
       → Reported input report
 
+-- A text as bytes.
+unfoldable pub bytes : String → List ℕ
+bytes String.[] = []
+bytes (String._∷_ c s) = code c ∷ bytes s
+
 -- A number in decimal, `most` digits at most; no number of 64 bits has more than 20.
 unfoldable pub digits : ℕ → ℕ → List ℕ
 unfolding pick
 digits zero n = []
 digits (suc most) n = pick (ltb n 10) ((48 + n) ∷ []) (digits most (n / 10) ++ (48 + n % 10) ∷ [])
 
--- The words of a line: a space (32) before each number, a line feed (10) at its end.
-unfoldable pub numbered : List ℕ → List ℕ
-unfolding digits
-numbered [] = 10 ∷ []
-numbered (n ∷ l) = 32 ∷ digits 20 n ++ numbered l
+-- Numbers, a space before each.
+unfoldable pub numbers : List ℕ → List ℕ
+unfolding digits bytes
+numbers [] = []
+numbers (n ∷ l) = bytes " " ++ digits 20 n ++ numbers l
 
--- `hop N X Y` for each hop from N on
-unfoldable pub hopTexts : ℕ → List Figures → List ℕ
-unfolding numbered
-hopTexts n [] = []
-hopTexts n (x ∷ l) = 104 ∷ 111 ∷ 112 ∷ numbered (n ∷ x .backlog ∷ x .delay ∷ []) ++ hopTexts (n + 1) l
+-- `hop N X Y`, a line for each hop from N on
+unfoldable pub hopLinesFrom : ℕ → List Figures → List ℕ
+unfolding numbers bytes
+hopLinesFrom n [] = []
+hopLinesFrom n (x ∷ l) = bytes "hop" ++ numbers (n ∷ x .backlog ∷ x .delay ∷ []) ++ bytes "\n" ++ hopLinesFrom (n + 1) l
 
 -- The hops, then `route X Y`; or one line only, `refused C at K`.
 unfoldable pub text : Report → List ℕ
-unfolding hopTexts numbered digits number
-text (passed hops x) = hopTexts 1 hops ++ 114 ∷ 111 ∷ 117 ∷ 116 ∷ 101 ∷ numbered (x .backlog ∷ x .delay ∷ [])
-text (refusedAt r k) =
-    114 ∷ 101 ∷ 102 ∷ 117 ∷ 115 ∷ 101 ∷ 100 ∷ 32 ∷ digits 20 (number r) ++ 32 ∷ 97 ∷ 116 ∷ numbered (k ∷ [])
+unfolding hopLinesFrom numbers bytes number
+text (passed hops x) = hopLinesFrom 1 hops ++ bytes "route" ++ numbers (x .backlog ∷ x .delay ∷ []) ++ bytes "\n"
+text (refusedAt r k) = bytes "refused" ++ numbers (number r ∷ []) ++ bytes " at" ++ numbers (k ∷ []) ++ bytes "\n"
 
 -- The program's output.
 pub record Route (input output : List ℕ) : Type 0 where
