@@ -17,3 +17,4 @@ pub mod Joining
 pub mod Profiles
 pub mod Figures
 pub mod Routes
+pub mod Readings

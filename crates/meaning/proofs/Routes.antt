@@ -11,7 +11,7 @@ use native.Mathlib.Decide.{ℕ-discrete}
 use native.Mathlib.Omega.{arith}
 use lib.ListN.{length, getD, length-append}
 use Rattle.meaning.specs.Curve.{Bucket, flat, tickValue}
-use Rattle.meaning.specs.Server.{Server, reads, join, Behind, Backlog, Delay}
+use Rattle.meaning.specs.Server.{Server, reads, join, Behind, Delay}
 use Rattle.meaning.specs.Refusal.{Refusal, HEADER, LENGTH, PAD, LIST, COUNT, RANGE, FORM, UNBOUNDED, LARGE, ROOM, number, Lines, Wins, Clear}
 use Rattle.meaning.specs.ServerQuestions.{portLines}
 use Rattle.meaning.specs.Route.{joinedWith, Figures, FiguresOf, Report, passed, refusedAt, Onward, ends, bytes-left, stops, hop, Reported, no-curve, from-curve, text, Route}
