@@ -1,0 +1,270 @@
+-- Readings of the definitions, for a reader who has other words in mind. Normal form by positions: "every other bucket" is every
+-- bucket at another position. The value at tick 0 is the smallest burst. A server serves nothing up to its latency, and its rate
+-- by the tick from then on. A greatest gap is the greatest of the differences, each 0 where it would be negative. The crossing
+-- numbered k is at the time (b_k - b_{k-1}) / (r_{k-1} - r_k). The byte counts of profile files, and that what is read is in range.
+-- Assumes nothing.
+use mathlib.Core.Path.{_≡_, refl, sym, _∙_, ap}
+use mathlib.Core.Logic.{_⊎_, inl, inr, _↔_}
+use mathlib.Core.List.{List, [], _∷_, List·Memᴰ·head, List·Memᴰ·tail}
+use Prim.Native.Nat.{ℕ, zero, suc, _+_, _-_, _*_, _≤_, _<_}
+use native.Mathlib.Nat.{le-of-lt, mul-le-mul-right, lt-of-mul-lt-mul-right}
+use native.Mathlib.Decide.{ℕ-discrete}
+use native.Mathlib.Omega.{arith}
+use lib.ListN.{length, getD}
+use Rattle.meaning.specs.Curve.{Bucket, _∈_, bucketAt, tickValue, Falling, Useful, NormalForm, Crossing}
+use Rattle.meaning.specs.Server.{Server, Instant, served, reads, GreatestGap, Excess, Backlog}
+use Rattle.meaning.specs.Refusal.{AllInRange}
+use Rattle.meaning.specs.Profile.{written, field, profileOf, curve, bucketsOf}
+use Rattle.meaning.proofs.Order.{le-or-lt, lt-or-eq-or-gt}
+use Rattle.meaning.proofs.Value.{value-least, value-reached}
+use Rattle.meaning.proofs.Joining.{served-past}
+use Rattle.meaning.proofs.Excess.{numbered}
+use Rattle.meaning.proofs.Profiles.{curve-bytes, held-curve, held-server, buckets-in-range}
+
+-- ---- Normal form: every other bucket is every bucket at another position.
+
+-- The bucket at a position, positions counted from 0.
+abbrev pub bucket : List Bucket → ℕ → Bucket
+bucket f i = getD f i (record { rate = 0; burst = 0 })
+
+-- the bucket at a position of a list stands in it
+bucket-inside : (f : List Bucket) (i : ℕ) → i < length f → bucket f i ∈ f
+bucket-inside [] i h = absurd (omega arith)
+bucket-inside (k ∷ f) zero h = List·Memᴰ·head refl
+bucket-inside (k ∷ f) (suc i) h = List·Memᴰ·tail (bucket-inside f i (omega arith))
+
+-- What stands in a list has a position.
+record Position (f : List Bucket) (k : Bucket) : Type 0 where
+  i : ℕ
+  inside : i < length f
+  there : k ≡ bucket f i
+
+position : {f : List Bucket} {k : Bucket} → k ∈ f → Position f k
+position (List·Memᴰ·head e) = record { i = 0; inside = omega arith; there = e }
+position (List·Memᴰ·tail m) =
+    let t = position m in
+    record { i = suc (t .i); inside = omega arith; there = t .there }
+
+-- Rates fall strictly: the bucket at a later position has the lower rate.
+abbrev pub FallingAt : List Bucket → Type 0
+FallingAt f = (i j : ℕ) → i < j → j < length f → bucket f j .rate < bucket f i .rate
+
+falling-at : (f : List Bucket) → Falling f → FallingAt f
+unfolding Falling
+falling-at [] h i j l m = absurd (omega arith)
+falling-at (k ∷ f) h i zero l m = absurd (omega arith)
+falling-at (k ∷ f) h zero (suc j) l m = h .0 (bucket f j) (bucket-inside f j (omega arith))
+falling-at (k ∷ f) h (suc i) (suc j) l m = falling-at f (h .1) i j (omega arith) (omega arith)
+
+at-falling : (f : List Bucket) → FallingAt f → Falling f
+unfolding Falling
+at-falling [] h = tt
+at-falling (k ∷ f) h = (later, at-falling f (λ i j l m. h (suc i) (suc j) (omega arith) (omega arith)))
+  where
+    later : (j : Bucket) → j ∈ f → j .rate < k .rate
+    later j m = let t = position m in rw (t .there) (h 0 (suc (t .i)) (omega arith) (omega arith))
+
+-- rates fall strictly exactly when they do by positions
+pub falling-by-position : (f : List Bucket) → Falling f ↔ FallingAt f
+falling-by-position f = (falling-at f, at-falling f)
+
+-- where rates fall strictly, buckets at different positions are different
+pub other-by-position :
+    (f : List Bucket) → Falling f → (i j : ℕ) → i < length f → j < length f → (j ≡ i → ⊥) → bucket f j ≡ bucket f i → ⊥
+other-by-position f h i j l m other e = split (lt-or-eq-or-gt i j)
+  where
+    rates : bucket f j .rate ≡ bucket f i .rate
+    rates = ap (λ (k : Bucket). k .rate) e
+
+    split : (i < j) ⊎ ((i ≡ j) ⊎ (j < i)) → ⊥
+    split (inl before) = omega (arith, falling-at f h i j before m, rates)
+    split (inr (inl same)) = other (sym same)
+    split (inr (inr after)) = omega (arith, falling-at f h j i after l, rates)
+
+-- There is a positive time p/q at which the bucket at a position lies strictly below the bucket at every other position.
+pub record UsefulAt (f : List Bucket) (i : ℕ) : Type 0 where
+  pub p : ℕ
+  pub q : ℕ
+  pub p-positive : 0 < p
+  pub q-positive : 0 < q
+  pub below : (j : ℕ) → j < length f → (j ≡ i → ⊥) → bucketAt (bucket f i) p q < bucketAt (bucket f j) p q
+
+-- where rates fall strictly, a bucket is useful exactly when it is so by its position
+pub useful-by-position : (f : List Bucket) → Falling f → (i : ℕ) → i < length f → Useful f (bucket f i) ↔ UsefulAt f i
+useful-by-position f h i l = (to, from)
+  where
+    to : Useful f (bucket f i) → UsefulAt f i
+    to u =
+        record {
+          p = u .p;
+          q = u .q;
+          p-positive = u .p-positive;
+          q-positive = u .q-positive;
+          below = λ j m other. u .below (bucket f j) (bucket-inside f j m) (other-by-position f h i j l m other);
+        }
+
+    from : UsefulAt f i → Useful f (bucket f i)
+    from u = record { p = u .p; q = u .q; p-positive = u .p-positive; q-positive = u .q-positive; below = below }
+      where
+        below :
+            (j : Bucket) → j ∈ f → (j ≡ bucket f i → ⊥) → bucketAt (bucket f i) (u .p) (u .q) < bucketAt j (u .p) (u .q)
+        below j m other =
+            let t = position m in
+            rw (t .there) (u .below (t .i) (t .inside) (λ e. other (t .there ∙ ap (bucket f) e)))
+
+-- Normal form by positions.
+pub record NormalAt (f : List Bucket) : Type 0 where
+  pub some : 1 ≤ length f
+  pub falling : FallingAt f
+  pub useful : (i : ℕ) → i < length f → UsefulAt f i
+
+-- a list is in normal form exactly when it is so by positions
+pub normal-by-position : (f : List Bucket) → NormalForm f ↔ NormalAt f
+normal-by-position f = (to, from)
+  where
+    to : NormalForm f → NormalAt f
+    to n =
+        record {
+          some = n .some;
+          falling = falling-at f (n .falling);
+          useful = λ i h. useful-by-position f (n .falling) i h .0 (n .useful (bucket f i) (bucket-inside f i h));
+        }
+
+    from : NormalAt f → NormalForm f
+    from n = record { some = n .some; falling = falls; useful = useful }
+      where
+        falls : Falling f
+        falls = at-falling f (n .falling)
+
+        useful : (k : Bucket) → k ∈ f → Useful f k
+        useful k m =
+            let t = position m in
+            rw (t .there) (useful-by-position f falls (t .i) (t .inside) .1 (n .useful (t .i) (t .inside)))
+
+-- ---- Value: at tick 0 it is the smallest burst.
+
+-- n is the smallest burst of a list.
+pub record SmallestBurst (f : List Bucket) (n : ℕ) : Type 0 where
+  pub lowest : Bucket
+  pub inside : lowest ∈ f
+  pub reached : n ≡ lowest .burst
+  pub smallest : (k : Bucket) → k ∈ f → n ≤ k .burst
+
+-- the value at tick 0 is the smallest burst
+pub value-at-zero : (f : List Bucket) → 1 ≤ length f → SmallestBurst f (tickValue f 0)
+unfolding bucketAt
+value-at-zero f h =
+    let r = value-reached f 0 1 h in
+    record {
+      lowest = r .bucket;
+      inside = r .inside;
+      reached = omega (arith, r .value-is);
+      smallest = λ k m. omega (arith, value-least f 0 1 m);
+    }
+
+-- ---- Service: nothing up to the latency, then the rate for each tick.
+
+-- up to its latency a server serves 0
+pub served-late : (s : Server) (t : ℕ) → t ≤ s .latency → served s t ≡ 0
+unfolding served
+served-late s t h = let none : t - s .latency ≡ 0 = omega arith in rw none (omega arith)
+
+-- and u ticks past it R·u
+pub served-then : (s : Server) (u : ℕ) → served s (s .latency + u) ≡ s .rate * u
+served-then s u = served-past s u refl
+
+-- ---- Greatest: the greatest of the differences, each 0 where it would be negative.
+
+-- n is the greatest of a(u) - b(u), where a difference is 0 if it would be negative.
+pub record GreatestDifference (a b : Instant → ℕ) (n : ℕ) : Type 0 where
+  pub at : Instant
+  pub reached : n ≡ a at - b at
+  pub greatest : (u : Instant) → a u - b u ≤ n
+
+module _ {a b : Instant → ℕ} {n : ℕ} where
+  -- a greatest gap is the greatest difference,
+  pub gap-is-difference : GreatestGap a b n → GreatestDifference a b n
+  gap-is-difference g =
+      record { at = g .at; reached = omega (arith, g .reached); greatest = λ u. omega (arith, g .greatest u) }
+
+  -- and the other way round where nothing is taken away at 0
+  pub difference-is-gap : b 0 ≡ 0 → GreatestDifference a b n → GreatestGap a b n
+  difference-is-gap none d = split (le-or-lt 1 n)
+    where
+      every : (u : Instant) → a u ≤ b u + n
+      every u = omega (arith, d .greatest u)
+
+      split : (1 ≤ n) ⊎ (n < 1) → GreatestGap a b n
+      split (inl h) = record { at = d .at; reached = omega (arith, d .reached); greatest = every }
+      split (inr h) = record { at = 0; reached = omega (arith, every 0); greatest = every }
+
+-- the backlog is the greatest difference of value and service
+pub backlog-is-difference : (f : List Bucket) (s : Server) (n : ℕ) → Backlog f s n ↔ GreatestDifference (reads f) (served s) n
+backlog-is-difference f s n = (gap-is-difference, difference-is-gap (served-late s 0 (omega arith)))
+
+-- and M is the greatest difference of value and R·u
+pub excess-is-difference : (f : List Bucket) (rate n : ℕ) → Excess f rate n ↔ GreatestDifference (reads f) (λ u. rate * u) n
+excess-is-difference f rate n = (gap-is-difference, difference-is-gap (omega arith))
+
+-- ---- Crossing: the time at which the two neighbours have one value is (b_k - b_{k-1}) / (r_{k-1} - r_k).
+
+-- a bucket steeper than another by v, and lower at 0 by w, meets it at w/v
+meet-at :
+    (k j : Bucket) (v w p q : ℕ) → j .rate + v ≡ k .rate → k .burst + w ≡ j .burst → bucketAt k p q ≡ bucketAt j p q ↔ (w * q ≡ v * p)
+unfolding bucketAt
+meet-at k j v w p q steeper lower = (
+  λ e. omega (arith, ap (λ x. x * p) steeper, ap (λ x. x * q) lower),
+  λ e. omega (arith, ap (λ x. x * p) steeper, ap (λ x. x * q) lower),
+)
+
+-- p/q is (b_k - b_{k-1}) / (r_{k-1} - r_k).
+abbrev pub CrossingTime : List Bucket → ℕ → ℕ → ℕ → Type 0
+CrossingTime f k p q =
+    (numbered f k .burst - numbered f (k - 1) .burst) * q ≡ (numbered f (k - 1) .rate - numbered f k .rate) * p
+
+module _ (f : List Bucket) (k p q : ℕ) where
+  -- where the rate does not rise nor the burst fall from bucket k-1 to bucket k, their crossing is at that time
+  pub crossing-time :
+      numbered f k .rate ≤ numbered f (k - 1) .rate → numbered f (k - 1) .burst ≤ numbered f k .burst
+      → Crossing f k p q ↔ CrossingTime f k p q
+  unfolding Crossing
+  crossing-time falls rises = meet-at (numbered f (k - 1)) (numbered f k) _ _ p q (omega arith) (omega arith)
+
+  -- so it is for every two neighbours in normal form
+  pub normal-crossing : NormalForm f → 1 < k → k ≤ length f → Crossing f k p q ↔ CrossingTime f k p q
+  unfolding bucketAt
+  normal-crossing n h l = crossing-time (le-of-lt falls) (le-of-lt rises)
+    where
+      by : NormalAt f
+      by = normal-by-position f .0 n
+
+      falls : numbered f k .rate < numbered f (k - 1) .rate
+      falls = by .falling (k - 1 - 1) (k - 1) (omega arith) (omega arith)
+
+      before : UsefulAt f (k - 1 - 1)
+      before = by .useful (k - 1 - 1) (omega arith)
+
+      rises : numbered f (k - 1) .burst < numbered f k .burst
+      rises =
+          lt-of-mul-lt-mul-right (before .q)
+          (omega (arith, before .below (k - 1) (omega arith) (omega arith), mul-le-mul-right (before .p) (le-of-lt falls)))
+
+-- ---- The profile file.
+
+-- the byte counts of curves of one, two and 64 buckets
+pub one-bucket-bytes : (f : List Bucket) → length f ≡ 1 → length (written (curve f)) ≡ 10
+one-bucket-bytes f e = omega (arith, curve-bytes f)
+
+pub two-bucket-bytes : (f : List Bucket) → length f ≡ 2 → length (written (curve f)) ≡ 17
+two-bucket-bytes f e = omega (arith, curve-bytes f)
+
+pub longest-bytes : (f : List Bucket) → length f ≡ 64 → length (written (curve f)) ≡ 482
+longest-bytes f e = omega (arith, curve-bytes f)
+
+-- the buckets that a file holds are in range
+pub read-in-range : (file : List ℕ) → AllInRange (bucketsOf (profileOf file))
+read-in-range file = split (ℕ-discrete (field file 4 4) 1)
+  where
+    split : Dec (field file 4 4 ≡ 1) → AllInRange (bucketsOf (profileOf file))
+    split (yes e) = rw (held-curve file e) (buckets-in-range file 14 _)
+    split (no e) = rw (held-server file e) (λ k m. elim m [ ])
