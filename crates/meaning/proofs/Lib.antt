@@ -16,3 +16,6 @@ pub mod Delay
 pub mod Joining
 pub mod Profiles
 pub mod Figures
+pub mod Lists
+pub mod Answers
+pub mod Slips
