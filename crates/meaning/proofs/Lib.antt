@@ -1,5 +1,6 @@
 -- The laws: theorems about the definitions of specs/, which other crates cite.
 pub mod Order
+pub mod Lists
 pub mod Value
 pub mod Lowest
 pub mod Unique
@@ -8,13 +9,17 @@ pub mod Usefulness
 pub mod Normal
 pub mod Curves
 pub mod Outcomes
+pub mod Answers
+pub mod Slips
 pub mod Cut
 pub mod HopByHop
 pub mod Excess
 pub mod Behind
 pub mod Delay
 pub mod Joining
+pub mod Demands
+pub mod EveryInput
 pub mod Profiles
-pub mod Figures
 pub mod Routes
 pub mod Readings
+pub mod Figures
