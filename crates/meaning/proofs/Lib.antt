@@ -16,3 +16,5 @@ pub mod Delay
 pub mod Joining
 pub mod Profiles
 pub mod Figures
+pub mod Lists
+pub mod Demands

@@ -1,0 +1,433 @@
+-- What is demanded of the answers, of the contracts themselves, as a planner reads them.
+-- Assumes nothing.
+use mathlib.Core.Path.{_≡_, refl, sym, _∙_, ap}
+use mathlib.Core.Logic.{_⊎_, inl, inr}
+use mathlib.Core.Bool.{Bool, true, false}
+use mathlib.Core.List.{List, [], _∷_, _++_, List·Memᴰ·head, List·Memᴰ·tail, List·Memᴰ·cases-cons}
+use Prim.Native.Nat.{ℕ, suc, _+_, _-_, _*_, _%_, _^_, _≤_, _<_}
+use native.Mathlib.Nat.{le-refl, le-trans, le-of-lt, mul-le-mul-right}
+use native.Mathlib.Omega.{arith}
+use lib.ListN.{length, take, drop}
+use lib.Dec.{lit≤}
+use Rattle.meaning.specs.Curve.{Bucket, _∈_, buckets, flat, bucketAt, tickValue, Falling, NormalForm}
+use Rattle.meaning.specs.Server.{Server, served, reads, GreatestGap, Excess, join, Behind, Backlog, Delay, Residual, last}
+use Rattle.meaning.specs.Refusal.{Refusal, LIST, COUNT, RANGE, FORM, UNBOUNDED, LARGE, ROOM, number, Lines, _when_, _or_, Clear, AllInRange, TooLarge, rawLines, curveLines, over, Refused, Answered, Question, allLines, Outcome, PartOutcome, FigureOutcome}
+use Rattle.meaning.specs.ServerQuestions.{ServerInRange, serverLines, portLines, passing, BacklogOutcome, DelayOutcome, withLarge, ServerOutcome, JoinOutcome, ResidualOutcome}
+use Rattle.meaning.specs.Computed.{isNormal}
+use Rattle.meaning.proofs.Order.{le-or-lt}
+use Rattle.meaning.proofs.Value.{Reached, value-reached}
+use Rattle.meaning.proofs.Neighbours.{neighbours-sound, neighbours-refute}
+use Rattle.meaning.proofs.Excess.{gap-unique}
+use Rattle.meaning.proofs.Behind.{behind-greatest}
+use Rattle.meaning.proofs.Joining.{last-inside, smallest-unique, residual-unique, residual-law, same-server, Convolution, join-convolution}
+use Rattle.meaning.proofs.HopByHop.{hop-by-hop, behind-unique, either-order, joined-delay}
+use Rattle.meaning.proofs.Lists.{buckets-use, flat-length, buckets-flat, over-start}
+use Rattle.meaning.proofs.Outcomes.{number-positive, Same, Single, refused-once, refused-or-clear, one-outcome, one-part-outcome, one-figure, clear-or, written-out, no-room}
+
+-- ---- One outcome for every input.
+
+-- No other server: the code and both numbers are fixed.
+pub one-server :
+    {operands : Lines} {Answer : Server → Type 0} {code code′ : ℕ} {s s′ : Server}
+    → Single Answer → ServerOutcome operands Answer code s → ServerOutcome operands Answer code′ s′ → (code ≡ code′) × (s ≡ s′)
+one-server one (ServerOutcome.refused v e) (ServerOutcome.refused w e′) =
+    let same = refused-once v w in (same .code-same, same-server (same .figure-same) (e ∙ sym e′))
+one-server one (ServerOutcome.refused v e) (ServerOutcome.answered clear e′ x) = absurd (refused-or-clear v clear)
+one-server one (ServerOutcome.answered clear e x) (ServerOutcome.refused w e′) = absurd (refused-or-clear w clear)
+one-server one (ServerOutcome.answered clear e x) (ServerOutcome.answered clear′ e′ x′) = (e ∙ sym e′, one _ _ x x′)
+
+module _ (f : List ℕ) (s : Server) where
+  -- one curve answers behind
+  pub single-behind : Single (passing f s .Answer)
+  unfolding passing
+  single-behind g h x y = behind-unique x y
+
+  -- behind has one outcome,
+  pub one-behind :
+      {before after after′ : List ℕ} {code count code′ count′ : ℕ}
+      → Outcome (passing f s) before after code count → Outcome (passing f s) before after′ code′ count′
+      → Same code count code′ count′ after after′
+  one-behind = one-outcome single-behind
+
+  -- in a part of a table too;
+  pub one-behind-in-part :
+      {at room : ℕ} {before after after′ : List ℕ} {code count code′ count′ : ℕ}
+      → PartOutcome (passing f s) at room before after code count → PartOutcome (passing f s) at room before after′ code′ count′
+      → Same code count code′ count′ after after′
+  one-behind-in-part = one-part-outcome single-behind
+
+  -- backlog has one,
+  pub one-backlog :
+      (code figure code′ figure′ : ℕ) → BacklogOutcome f s code figure → BacklogOutcome f s code′ figure′
+      → (code ≡ code′) × (figure ≡ figure′)
+  unfolding BacklogOutcome
+  one-backlog code figure code′ figure′ = one-figure (λ m n x y. gap-unique x y)
+
+  -- delay has one,
+  pub one-delay :
+      (code figure code′ figure′ : ℕ) → DelayOutcome f s code figure → DelayOutcome f s code′ figure′
+      → (code ≡ code′) × (figure ≡ figure′)
+  unfolding DelayOutcome
+  one-delay code figure code′ figure′ = one-figure (λ m n x y. smallest-unique x y)
+
+  -- residual has one,
+  pub one-residual :
+      (code code′ : ℕ) (left left′ : Server) → ResidualOutcome f s code left → ResidualOutcome f s code′ left′
+      → (code ≡ code′) × (left ≡ left′)
+  unfolding ResidualOutcome
+  one-residual code code′ left left′ = one-server (λ x y. residual-unique)
+
+-- and join has one
+pub one-join :
+    (s next : Server) (code code′ : ℕ) (joined joined′ : Server)
+    → JoinOutcome s next code joined → JoinOutcome s next code′ joined′ → (code ≡ code′) × (joined ≡ joined′)
+unfolding JoinOutcome
+one-join s next code code′ joined joined′ = one-server (λ x y e e′. e ∙ sym e′)
+
+-- ---- What is read of an answer.
+
+-- The list that a curve answer has written: the first `count` buckets of the lent list.
+abbrev pub listIn : List ℕ → ℕ → List ℕ
+listIn after count = take (2 * count) after
+
+-- What holds of a list that is answered.
+pub record GoodList (ask : Question) (before after : List ℕ) (count : ℕ) (g : List ℕ) : Type 0 where
+  pub operands-clear : Clear (ask .operands)
+  pub right : ask .Answer (buckets g)
+  pub fits : TooLarge (buckets g) → ⊥
+  pub count-is : count ≡ length (buckets g)
+  pub numbers : flat (buckets g) ≡ g
+  pub room : length g ≤ length before
+  pub written : after ≡ over g before
+
+module _ (ask : Question) (before after : List ℕ) (count : ℕ) where
+  -- the numbers of a curve that is written are read back
+  read-back : (v : Answered (allLines ask (length before)) (ask .Answer) before after 0 count) → listIn after count ≡ flat (v .curve)
+  read-back v =
+      let n : 2 * count ≡ length (flat (v .curve)) = omega (arith, v .count-is, flat-length (v .curve)) in
+      rw (n, v .written) (over-start (flat (v .curve)) before)
+
+  pub answered-list : Outcome ask before after 0 count → GoodList ask before after count (listIn after count)
+  answered-list (Outcome.refused v) = absurd (omega (arith, v .code-is, number-positive (v .why)))
+  answered-list (Outcome.answered v) =
+      rw (read-back v)
+      (record {
+        operands-clear = λ r h. v .clear r (inl h);
+        right = rw (buckets-flat (v .curve)) (v .right);
+        fits = rw (buckets-flat (v .curve)) (λ large. v .clear LARGE (inr (inl (refl, (v .curve, v .right, large)))));
+        count-is = rw (buckets-flat (v .curve)) (v .count-is);
+        numbers = rw (buckets-flat (v .curve));
+        room = has-room (le-or-lt (length (flat (v .curve))) (length before));
+        written = v .written;
+      })
+    where
+      has-room : (length (flat (v .curve)) ≤ length before) ⊎ (length before < length (flat (v .curve))) → length (flat (v .curve)) ≤ length before
+      has-room (inl h) = h
+      has-room (inr h) = absurd (v .clear ROOM (inr (inr (refl, (v .curve, v .right, h)))))
+
+-- ---- What is known of operands that no line refuses.
+
+-- what is not above is at most
+not-above : {a b : ℕ} → (b < a → ⊥) → a ≤ b
+not-above {a} {b} h = split (le-or-lt a b)
+  where
+    split : (a ≤ b) ⊎ (b < a) → a ≤ b
+    split (inl l) = l
+    split (inr l) = absurd (h l)
+
+-- a curve is in normal form
+pub clear-form : (f : List ℕ) → Clear (curveLines f) → NormalForm (buckets f)
+clear-form f clear = decided (isNormal (buckets f)) refl
+  where
+    decided : (t : Bool) → isNormal (buckets f) ≡ t → NormalForm (buckets f)
+    decided true e = neighbours-sound (buckets f) e
+    decided false e = absurd (clear FORM (inr (refl, neighbours-refute (buckets f) e)))
+
+-- a server is in range
+pub clear-server : (s : Server) → Clear (serverLines s) → ServerInRange s
+clear-server s clear =
+    record {
+      rate-some = not-above (λ h. out (λ r. omega (arith, r .rate-some)));
+      rate-fits = not-above (λ h. out (λ r. omega (arith, r .rate-fits)));
+      latency-fits = not-above (λ h. out (λ r. omega (arith, r .latency-fits)));
+    }
+  where
+    out : (ServerInRange s → ⊥) → ⊥
+    out h = clear RANGE (refl, h)
+
+-- The lines of a curve and a server, one after the other.
+module _ (f : List ℕ) (s : Server) (clear : Clear (portLines f s)) where
+  clear-curve : Clear (curveLines f)
+  clear-curve r h = clear r (inl (inl h))
+
+  port-form : NormalForm (buckets f)
+  port-form = clear-form f clear-curve
+
+-- An answered list in normal form is itself a curve that no line refuses.
+pub accepted-again :
+    {ask : Question} {before after : List ℕ} {count : ℕ} {g : List ℕ}
+    → GoodList ask before after count g → NormalForm (buckets g) → Clear (curveLines g)
+accepted-again {g = g} good form = clear-or (clear-or (clear-or list count) range) normal
+  where
+    long : length g ≡ 2 * length (buckets g)
+    long = ap length (sym (good .numbers)) ∙ flat-length (buckets g)
+
+    list : Clear (LIST when ((length g ≡ 0) ⊎ (length g % 2 ≡ 1)))
+    list r (e, inl h) = omega (arith, long, form .some)
+    list r (e, inr h) = omega (arith, long, buckets-use g)
+
+    count : Clear (COUNT when (64 < length (buckets g)))
+    count r h = good .fits (inl (h .1))
+
+    range : Clear (RANGE when (AllInRange (buckets g) → ⊥))
+    range r h = good .fits (inr (h .1))
+
+    normal : Clear (FORM when (NormalForm (buckets g) → ⊥))
+    normal r h = h .1 form
+
+-- no bucket's rate is below the last one's
+last-slowest : (f : List Bucket) → Falling f → {k : Bucket} → k ∈ f → last f .rate ≤ k .rate
+unfolding Falling last
+last-slowest (j ∷ []) falling {k} m = only (List·Memᴰ·cases-cons m)
+  where
+    only : (k ≡ j) ⊎ (k ∈ []) → j .rate ≤ k .rate
+    only (inl e) = rw e (le-refl (j .rate))
+    only (inr n) = elim n [ ]
+last-slowest (j ∷ i ∷ f) falling {k} m = split (λ n. last-slowest (i ∷ f) (falling .1) n) (List·Memᴰ·cases-cons m)
+  where
+    split : (k ∈ (i ∷ f) → last (i ∷ f) .rate ≤ k .rate) → (k ≡ j) ⊎ (k ∈ (i ∷ f)) → last (i ∷ f) .rate ≤ k .rate
+    split rest (inl e) = rw e (le-of-lt (falling .0 (last (i ∷ f)) (last-inside (i ∷ f) (omega arith))))
+    split rest (inr n) = rest n
+
+-- A curve that has an excess for a rate ends in a bucket of at most that rate: at a late tick no other is that low.
+pub excess-bounded : {f : List Bucket} {rate m : ℕ} → NormalForm f → Excess f rate m → last f .rate ≤ rate
+unfolding reads bucketAt
+excess-bounded {f} {rate} {m} form e = from (value-reached f (suc m) 1 (form .some))
+  where
+    from : Reached f (suc m) 1 → last f .rate ≤ rate
+    from r =
+        le-trans (last-slowest f (form .falling) (r .inside))
+        (not-above (λ h. omega (arith, r .value-is, e .greatest (suc m), mul-le-mul-right (suc m) h)))
+
+-- ---- Demand 2: what is answered.
+
+-- The curve behind: in normal form, a curve that no line refuses, and at every whole t its value is the greatest over whole u of
+-- value(t+u) minus what is served by u.
+pub record BehindRead (f : List ℕ) (s : Server) (g : List ℕ) : Type 0 where
+  pub definition : Behind (buckets f) s (buckets g)
+  pub normal-form : NormalForm (buckets g)
+  pub accepted : Clear (curveLines g)
+  pub greatest : (t : ℕ) → GreatestGap (λ u. reads (buckets f) (t + u)) (served s) (tickValue (buckets g) t)
+
+module _ (f : List ℕ) (s : Server) where
+  pub behind-good :
+      {before after : List ℕ} {count : ℕ} {g : List ℕ} → GoodList (passing f s) before after count g → BehindRead f s g
+  unfolding passing
+  behind-good good =
+      record {
+        definition = good .right;
+        normal-form = good .right .normal .form;
+        accepted = accepted-again good (good .right .normal .form);
+        greatest = behind-greatest (port-form f s (good .operands-clear) .some) (good .right);
+      }
+
+  pub answered-behind :
+      (before after : List ℕ) (count : ℕ) → Outcome (passing f s) before after 0 count → BehindRead f s (listIn after count)
+  answered-behind before after count o = behind-good (answered-list (passing f s) before after count o)
+
+-- A figure that is answered is the right one, and no line holds.
+figure-answered :
+    {lines : Lines} {Figure : ℕ → Type 0} {figure : ℕ} → FigureOutcome lines Figure 0 figure → Clear lines × Figure figure
+figure-answered (FigureOutcome.refused v) = absurd (omega (arith, v .code-is, number-positive (v .why)))
+figure-answered (FigureOutcome.answered clear e x) = (clear, x)
+
+-- Where no line holds a figure is answered.
+figure-clear :
+    {lines : Lines} {Figure : ℕ → Type 0} {code figure : ℕ}
+    → Clear lines → FigureOutcome lines Figure code figure → (code ≡ 0) × Figure figure
+figure-clear none (FigureOutcome.refused v) = absurd (refused-or-clear v none)
+figure-clear none (FigureOutcome.answered clear e x) = (e, x)
+
+-- The same of a server.
+server-answered :
+    {operands : Lines} {Answer : Server → Type 0} {s : Server}
+    → ServerOutcome operands Answer 0 s → Clear (withLarge operands Answer) × Answer s
+server-answered (ServerOutcome.refused v e) = absurd (omega (arith, v .code-is, number-positive (v .why)))
+server-answered (ServerOutcome.answered clear e x) = (clear, x)
+
+module _ (f : List ℕ) (s : Server) where
+  -- an answered backlog is the greatest over whole u of value(u) minus what is served by u
+  pub answered-backlog : (n : ℕ) → BacklogOutcome f s 0 n → GreatestGap (reads (buckets f)) (served s) n
+  unfolding BacklogOutcome
+  answered-backlog n o = figure-answered o .1
+
+  -- an answered delay suffices at every whole tick,
+  pub answered-delay : (d : ℕ) → DelayOutcome f s 0 d → (t : ℕ) → reads (buckets f) t ≤ served s (t + d)
+  unfolding DelayOutcome
+  answered-delay d o = figure-answered o .1 .suffices
+
+  -- and no smaller number does
+  pub answered-delay-smallest :
+      (d : ℕ) → DelayOutcome f s 0 d → (m : ℕ) → m < d → ((t : ℕ) → reads (buckets f) t ≤ served s (t + m)) → ⊥
+  unfolding DelayOutcome
+  answered-delay-smallest d o m less enough = omega (arith, figure-answered o .1 .smallest m enough)
+
+  -- past its latency L an answered residual never serves more by tick t than R·(t-T) minus the cross curve's value at t-L
+  pub answered-residual :
+      (left : Server) → ResidualOutcome f s 0 left → (t : ℕ) → left .latency ≤ t
+      → served left t + reads (buckets f) (t - left .latency) ≤ s .rate * (t - s .latency)
+  unfolding ResidualOutcome
+  answered-residual left o =
+      let known = server-answered o in
+      let clear = known .0 in
+      residual-law (clear-form f (λ r h. clear r (inl (inl (inl h)))) .some) (known .1)
+      (not-above (λ h. clear UNBOUNDED (inl (inr (refl, omega arith)))))
+
+-- an answered joined server is in range, and serves by each tick the min-plus convolution of what the two serve
+pub answered-join :
+    (s next joined : Server) → JoinOutcome s next 0 joined
+    → ServerInRange joined × ((t : ℕ) → Convolution (served s) (served next) t (served joined t))
+unfolding JoinOutcome
+answered-join s next joined o =
+    let known = server-answered o in
+    (clear-server joined (λ r h. known .0 LARGE (inr (refl, (joined, known .1, h .1)))), rw (known .1) (join-convolution s next))
+
+-- ---- Demand 3: hop by hop is one step through the joined server.
+
+-- A hop that is answered: the curve f, passed through the server s, and the list g that stands in the lent list afterwards.
+-- (Where the output is a part of a table, `inside` of its outcome is the outcome.)
+pub record Hop (f : List ℕ) (s : Server) (g : List ℕ) : Type 0 where
+  pub before : List ℕ
+  pub after : List ℕ
+  pub count : ℕ
+  pub answered : Outcome (passing f s) before after 0 count
+  pub list-is : listIn after count ≡ g
+
+-- A curve and two servers where both hops and the joining of the servers are answered.
+pub record TwoHops (f : List ℕ) (s next joined : Server) (a g : List ℕ) : Type 0 where
+  pub first : Hop f s a
+  pub second : Hop a next g
+  pub joining : JoinOutcome s next 0 joined
+
+-- The one step is answered, with the list g.
+pub record StepAnswered (g before after : List ℕ) (code count : ℕ) : Type 0 where
+  pub code-is-0 : code ≡ 0
+  pub count-is-the-same : count ≡ length (buckets g)
+  pub list-is-the-same : listIn after count ≡ g
+  pub beyond-stays : after ≡ over g before
+
+-- What then holds.
+pub record OneStep (f : List ℕ) (s next joined : Server) (a g : List ℕ) : Type 0 where
+  -- The one step through the joined server, given room for its list, is answered too, and its curve is, bucket for bucket, the
+  -- hop-by-hop curve,
+  pub one-step-is-answered-too :
+      {before after : List ℕ} {code count : ℕ}
+      → Outcome (passing f joined) before after code count → length g ≤ length before → StepAnswered g before after code count
+  -- (and there is such an outcome)
+  pub one-step-has-an-outcome :
+      (before : List ℕ) → length g ≤ length before → Outcome (passing f joined) before (over g before) 0 (length (buckets g))
+  -- both being the curve of demand 2.
+  pub curve-of-the-one-step : BehindRead f joined g
+  pub curve-of-the-hops : BehindRead a next g
+  -- With the servers the other way round the list is the same, if those hops are answered.
+  pub other-way-round : {b h : List ℕ} → Hop f next b → Hop b s h → h ≡ g
+  -- The delay through the joined server is answered, and never more than the two hops' delays added.
+  pub joined-delay-is-never-more :
+      (code d code′ e code″ n : ℕ) → DelayOutcome f s code d → DelayOutcome a next code′ e → DelayOutcome f joined code″ n
+      → (code″ ≡ 0) × (n ≤ d + e)
+
+-- what is known of a hop
+hop-read : {f : List ℕ} {s : Server} {g : List ℕ} (h : Hop f s g) → GoodList (passing f s) (h .before) (h .after) (h .count) g
+hop-read h = rw (h .list-is) at (answered-list _ _ _ _ (h .answered))
+
+module _ {f : List ℕ} {s next joined : Server} {a g : List ℕ} (hops : TwoHops f s next joined a g) where
+  first-behind : BehindRead f s a
+  first-behind = behind-good f s (hop-read (hops .first))
+
+  second-behind : BehindRead a next g
+  second-behind = behind-good a next (hop-read (hops .second))
+
+  joined-is : joined ≡ join s next
+  unfolding JoinOutcome
+  joined-is = server-answered (hops .joining) .1
+
+  curve-clear : Clear (curveLines f)
+  unfolding passing
+  curve-clear = clear-curve f s (hop-read (hops .first) .operands-clear)
+
+  -- the hop-by-hop list stands behind the joined server
+  joined-behind : Behind (buckets f) joined (buckets g)
+  joined-behind =
+      rw joined-is
+      (hop-by-hop (clear-form f curve-clear .some) (first-behind .definition) (second-behind .definition))
+
+  -- no line holds of the curve and the joined server
+  joined-clear : Clear (portLines f joined)
+  joined-clear =
+      clear-or (clear-or curve-clear (λ r h. h .1 (answered-join s next joined (hops .joining) .0)))
+      (λ r h. omega (arith, h .1, excess-bounded (clear-form f curve-clear) (joined-behind .excess)))
+
+  -- so the one step is answered with that list
+  step-answered :
+      (before : List ℕ) → length g ≤ length before → Outcome (passing f joined) before (over g before) 0 (length (buckets g))
+  unfolding passing
+  step-answered before room =
+      let good = hop-read (hops .second) in
+      rw (good .numbers) at
+      (written-out (passing f joined) before joined-clear joined-behind (single-behind f joined) (good .fits)
+      (rw (good .numbers) room))
+
+  step-same :
+      {before after : List ℕ} {code count : ℕ}
+      → Outcome (passing f joined) before after code count → length g ≤ length before → StepAnswered g before after code count
+  step-same {before} {after} {code} {count} o room =
+      let same = one-behind f joined o (step-answered before room) in
+      let numbers : 2 * count ≡ length g =
+      omega (arith, same .figure-same, flat-length (buckets g), ap length (hop-read (hops .second) .numbers)) in
+      record {
+        code-is-0 = same .code-same;
+        count-is-the-same = same .figure-same;
+        list-is-the-same = rw (numbers, same .after-same) (over-start g before);
+        beyond-stays = same .after-same;
+      }
+
+  -- the other way round the list is the same
+  order-same : {b h : List ℕ} → Hop f next b → Hop b s h → h ≡ g
+  order-same {b} {h} x y =
+      let other = hop-read y in
+      let e : buckets g ≡ buckets h =
+      either-order (clear-form f curve-clear .some) (first-behind .definition) (second-behind .definition)
+      (behind-good f next (hop-read x) .definition) (behind-good b s other .definition) in
+      sym (other .numbers) ∙ ap flat (sym e) ∙ hop-read (hops .second) .numbers
+
+  -- the joined server's delay is at most the two hops' together
+  delay-less :
+      (code d code′ e code″ n : ℕ) → DelayOutcome f s code d → DelayOutcome a next code′ e → DelayOutcome f joined code″ n
+      → (code″ ≡ 0) × (n ≤ d + e)
+  unfolding DelayOutcome passing
+  delay-less code d code′ e code″ n x y z =
+      let through = figure-clear joined-clear z in (
+        through .0,
+        joined-delay next (clear-form f curve-clear .some) (first-behind .definition)
+            (figure-clear (hop-read (hops .first) .operands-clear) x .1)
+            (figure-clear (hop-read (hops .second) .operands-clear) y .1)
+            (rw joined-is at (through .1)),
+      )
+
+  -- Demand 3.
+  pub hop-by-hop-is-one-step : OneStep f s next joined a g
+  hop-by-hop-is-one-step =
+      record {
+        one-step-is-answered-too = step-same;
+        one-step-has-an-outcome = step-answered;
+        curve-of-the-one-step =
+            record {
+              definition = joined-behind;
+              normal-form = second-behind .normal-form;
+              accepted = second-behind .accepted;
+              greatest = behind-greatest (clear-form f curve-clear .some) joined-behind;
+            };
+        curve-of-the-hops = second-behind;
+        other-way-round = order-same;
+        joined-delay-is-never-more = delay-less;
+      }
