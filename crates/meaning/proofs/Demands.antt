@@ -4,30 +4,52 @@ use mathlib.Core.Path.{_≡_, refl, sym, _∙_, ap}
 use mathlib.Core.Logic.{_⊎_, inl, inr}
 use mathlib.Core.Bool.{Bool, true, false}
 use mathlib.Core.List.{List, [], _∷_, _++_, List·Memᴰ·head, List·Memᴰ·tail, List·Memᴰ·cases-cons}
-use Prim.Native.Nat.{ℕ, suc, _+_, _-_, _*_, _%_, _^_, _≤_, _<_}
+use Prim.Native.Nat.{ℕ, suc, _+_, _-_, _*_, _%_, _^_, _≤_, _<_, min}
 use native.Mathlib.Nat.{le-refl, le-trans, le-of-lt, mul-le-mul-right}
 use native.Mathlib.Omega.{arith}
 use lib.ListN.{length, take, drop}
 use lib.Dec.{lit≤}
-use Rattle.meaning.specs.Curve.{Bucket, _∈_, buckets, flat, bucketAt, tickValue, Falling, NormalForm}
+use Rattle.meaning.specs.Curve.{Bucket, _∈_, buckets, flat, bucketAt, valueAt, tickValue, Falling, NormalForm, NormalOf, pairs}
 use Rattle.meaning.specs.Server.{Server, served, reads, GreatestGap, Excess, join, Behind, Backlog, Delay, Residual, last}
-use Rattle.meaning.specs.Refusal.{Refusal, LIST, COUNT, RANGE, FORM, UNBOUNDED, LARGE, ROOM, number, Lines, _when_, _or_, Clear, AllInRange, TooLarge, rawLines, curveLines, over, Refused, Answered, Question, allLines, Outcome, PartOutcome, FigureOutcome}
+use Rattle.meaning.specs.CurveQuestions.{normalising, lowering, summing, shaping, ValueOutcome}
+use Rattle.meaning.specs.Refusal.{Refusal, LIST, COUNT, RANGE, FORM, UNBOUNDED, LARGE, ROOM, number, Lines, _when_, _or_, Clear, Verdict, accepted, AllInRange, TooLarge, rawLines, curveLines, over, Refused, Answered, Question, allLines, Outcome, PartOutcome, FigureOutcome}
 use Rattle.meaning.specs.ServerQuestions.{ServerInRange, serverLines, portLines, passing, BacklogOutcome, DelayOutcome, withLarge, ServerOutcome, JoinOutcome, ResidualOutcome}
 use Rattle.meaning.specs.Computed.{isNormal}
 use Rattle.meaning.proofs.Order.{le-or-lt}
 use Rattle.meaning.proofs.Value.{Reached, value-reached}
+use Rattle.meaning.proofs.Unique.{normal-of-unique}
 use Rattle.meaning.proofs.Neighbours.{neighbours-sound, neighbours-refute}
+use Rattle.meaning.proofs.Curves.{lower-value, sum-value}
 use Rattle.meaning.proofs.Excess.{gap-unique}
 use Rattle.meaning.proofs.Behind.{behind-greatest}
 use Rattle.meaning.proofs.Joining.{last-inside, smallest-unique, residual-unique, residual-law, same-server, Convolution, join-convolution}
 use Rattle.meaning.proofs.HopByHop.{hop-by-hop, behind-unique, either-order, joined-delay}
 use Rattle.meaning.proofs.Lists.{buckets-use, flat-length, buckets-flat, over-start}
-use Rattle.meaning.proofs.Outcomes.{number-positive, Same, Single, refused-once, refused-or-clear, one-outcome, one-part-outcome, one-figure, clear-or, written-out, no-room}
+use Rattle.meaning.proofs.Outcomes.{number-positive, Same, Single, refused-once, refused-or-clear, one-outcome, one-part-outcome, one-figure, UpTo, from-when, up-to-when, up-to-or, line-hit, clear-or, refused-first, refused-then, refusal, refuse, written-out, no-room}
 
 -- ---- One outcome for every input.
 
+-- (D, 0)
+abbrev linkBucket : ℕ → Bucket
+linkBucket d = record { rate = d; burst = 0 }
+
+-- A question that a curve answers leaves one outcome: the code, the count and the full contents of the lent list, or of the
+-- table that it is a part of.
+pub record OneOutcome (ask : Question) : Type 0 where
+  pub in-a-list :
+      {before after after′ : List ℕ} {code count code′ count′ : ℕ}
+      → Outcome ask before after code count → Outcome ask before after′ code′ count′
+      → Same code count code′ count′ after after′
+  pub in-a-part :
+      {at room : ℕ} {before after after′ : List ℕ} {code count code′ count′ : ℕ}
+      → PartOutcome ask at room before after code count → PartOutcome ask at room before after′ code′ count′
+      → Same code count code′ count′ after after′
+
+one-curve : (ask : Question) → Single (ask .Answer) → OneOutcome ask
+one-curve ask one = record { in-a-list = one-outcome one; in-a-part = one-part-outcome one }
+
 -- No other server: the code and both numbers are fixed.
-pub one-server :
+one-server :
     {operands : Lines} {Answer : Server → Type 0} {code code′ : ℕ} {s s′ : Server}
     → Single Answer → ServerOutcome operands Answer code s → ServerOutcome operands Answer code′ s′ → (code ≡ code′) × (s ≡ s′)
 one-server one (ServerOutcome.refused v e) (ServerOutcome.refused w e′) =
@@ -36,53 +58,63 @@ one-server one (ServerOutcome.refused v e) (ServerOutcome.answered clear e′ x)
 one-server one (ServerOutcome.answered clear e x) (ServerOutcome.refused w e′) = absurd (refused-or-clear w clear)
 one-server one (ServerOutcome.answered clear e x) (ServerOutcome.answered clear′ e′ x′) = (e ∙ sym e′, one _ _ x x′)
 
+-- one list is the normal form
+single-normal : (raw : List Bucket) → Single (NormalOf raw)
+single-normal raw f g x y = normal-of-unique x y
+
+pub one-normalise : (raw : List ℕ) → OneOutcome (normalising raw)
+unfolding normalising
+one-normalise raw = one-curve (normalising raw) (single-normal (buckets raw))
+
+pub one-lower : (f g : List ℕ) → OneOutcome (lowering f g)
+unfolding lowering
+one-lower f g = one-curve (lowering f g) (single-normal (buckets f ++ buckets g))
+
+pub one-sum : (f g : List ℕ) → OneOutcome (summing f g)
+unfolding summing
+one-sum f g = one-curve (summing f g) (single-normal (pairs (buckets f) (buckets g)))
+
+pub one-shape : (f : List ℕ) (d : ℕ) → OneOutcome (shaping f d)
+unfolding shaping
+one-shape f d = one-curve (shaping f d) (single-normal (buckets f ++ linkBucket d ∷ []))
+
+pub one-value :
+    (f : List ℕ) (t : ℕ) {code figure code′ figure′ : ℕ} → ValueOutcome f t code figure → ValueOutcome f t code′ figure′
+    → (code ≡ code′) × (figure ≡ figure′)
+unfolding ValueOutcome
+one-value f t = one-figure (λ m n e e′. e ∙ sym e′)
+
+pub one-join :
+    (s next : Server) {code code′ : ℕ} {joined joined′ : Server}
+    → JoinOutcome s next code joined → JoinOutcome s next code′ joined′ → (code ≡ code′) × (joined ≡ joined′)
+unfolding JoinOutcome
+one-join s next = one-server (λ x y e e′. e ∙ sym e′)
+
 module _ (f : List ℕ) (s : Server) where
-  -- one curve answers behind
-  pub single-behind : Single (passing f s .Answer)
+  single-behind : Single (passing f s .Answer)
   unfolding passing
   single-behind g h x y = behind-unique x y
 
-  -- behind has one outcome,
-  pub one-behind :
-      {before after after′ : List ℕ} {code count code′ count′ : ℕ}
-      → Outcome (passing f s) before after code count → Outcome (passing f s) before after′ code′ count′
-      → Same code count code′ count′ after after′
-  one-behind = one-outcome single-behind
+  pub one-behind : OneOutcome (passing f s)
+  one-behind = one-curve (passing f s) single-behind
 
-  -- in a part of a table too;
-  pub one-behind-in-part :
-      {at room : ℕ} {before after after′ : List ℕ} {code count code′ count′ : ℕ}
-      → PartOutcome (passing f s) at room before after code count → PartOutcome (passing f s) at room before after′ code′ count′
-      → Same code count code′ count′ after after′
-  one-behind-in-part = one-part-outcome single-behind
-
-  -- backlog has one,
   pub one-backlog :
-      (code figure code′ figure′ : ℕ) → BacklogOutcome f s code figure → BacklogOutcome f s code′ figure′
+      {code figure code′ figure′ : ℕ} → BacklogOutcome f s code figure → BacklogOutcome f s code′ figure′
       → (code ≡ code′) × (figure ≡ figure′)
   unfolding BacklogOutcome
-  one-backlog code figure code′ figure′ = one-figure (λ m n x y. gap-unique x y)
+  one-backlog = one-figure (λ m n x y. gap-unique x y)
 
-  -- delay has one,
   pub one-delay :
-      (code figure code′ figure′ : ℕ) → DelayOutcome f s code figure → DelayOutcome f s code′ figure′
+      {code figure code′ figure′ : ℕ} → DelayOutcome f s code figure → DelayOutcome f s code′ figure′
       → (code ≡ code′) × (figure ≡ figure′)
   unfolding DelayOutcome
-  one-delay code figure code′ figure′ = one-figure (λ m n x y. smallest-unique x y)
+  one-delay = one-figure (λ m n x y. smallest-unique x y)
 
-  -- residual has one,
   pub one-residual :
-      (code code′ : ℕ) (left left′ : Server) → ResidualOutcome f s code left → ResidualOutcome f s code′ left′
+      {code code′ : ℕ} {left left′ : Server} → ResidualOutcome f s code left → ResidualOutcome f s code′ left′
       → (code ≡ code′) × (left ≡ left′)
   unfolding ResidualOutcome
-  one-residual code code′ left left′ = one-server (λ x y. residual-unique)
-
--- and join has one
-pub one-join :
-    (s next : Server) (code code′ : ℕ) (joined joined′ : Server)
-    → JoinOutcome s next code joined → JoinOutcome s next code′ joined′ → (code ≡ code′) × (joined ≡ joined′)
-unfolding JoinOutcome
-one-join s next code code′ joined joined′ = one-server (λ x y e e′. e ∙ sym e′)
+  one-residual = one-server (λ x y. residual-unique)
 
 -- ---- What is read of an answer.
 
@@ -91,7 +123,7 @@ abbrev pub listIn : List ℕ → ℕ → List ℕ
 listIn after count = take (2 * count) after
 
 -- What holds of a list that is answered.
-pub record GoodList (ask : Question) (before after : List ℕ) (count : ℕ) (g : List ℕ) : Type 0 where
+pub record AnsweredList (ask : Question) (before after : List ℕ) (count : ℕ) (g : List ℕ) : Type 0 where
   pub operands-clear : Clear (ask .operands)
   pub right : ask .Answer (buckets g)
   pub fits : TooLarge (buckets g) → ⊥
@@ -100,14 +132,14 @@ pub record GoodList (ask : Question) (before after : List ℕ) (count : ℕ) (g 
   pub room : length g ≤ length before
   pub written : after ≡ over g before
 
-module _ (ask : Question) (before after : List ℕ) (count : ℕ) where
+module _ {ask : Question} {before after : List ℕ} {count : ℕ} where
   -- the numbers of a curve that is written are read back
   read-back : (v : Answered (allLines ask (length before)) (ask .Answer) before after 0 count) → listIn after count ≡ flat (v .curve)
   read-back v =
       let n : 2 * count ≡ length (flat (v .curve)) = omega (arith, v .count-is, flat-length (v .curve)) in
       rw (n, v .written) (over-start (flat (v .curve)) before)
 
-  pub answered-list : Outcome ask before after 0 count → GoodList ask before after count (listIn after count)
+  pub answered-list : Outcome ask before after 0 count → AnsweredList ask before after count (listIn after count)
   answered-list (Outcome.refused v) = absurd (omega (arith, v .code-is, number-positive (v .why)))
   answered-list (Outcome.answered v) =
       rw (read-back v)
@@ -143,17 +175,14 @@ clear-form f clear = decided (isNormal (buckets f)) refl
     decided true e = neighbours-sound (buckets f) e
     decided false e = absurd (clear FORM (inr (refl, neighbours-refute (buckets f) e)))
 
--- a server is in range
-pub clear-server : (s : Server) → Clear (serverLines s) → ServerInRange s
-clear-server s clear =
+-- a server that is not out of range is in range
+in-range : (s : Server) → ((ServerInRange s → ⊥) → ⊥) → ServerInRange s
+in-range s not-out =
     record {
-      rate-some = not-above (λ h. out (λ r. omega (arith, r .rate-some)));
-      rate-fits = not-above (λ h. out (λ r. omega (arith, r .rate-fits)));
-      latency-fits = not-above (λ h. out (λ r. omega (arith, r .latency-fits)));
+      rate-some = not-above (λ h. not-out (λ r. omega (arith, r .rate-some)));
+      rate-fits = not-above (λ h. not-out (λ r. omega (arith, r .rate-fits)));
+      latency-fits = not-above (λ h. not-out (λ r. omega (arith, r .latency-fits)));
     }
-  where
-    out : (ServerInRange s → ⊥) → ⊥
-    out h = clear RANGE (refl, h)
 
 -- The lines of a curve and a server, one after the other.
 module _ (f : List ℕ) (s : Server) (clear : Clear (portLines f s)) where
@@ -166,7 +195,7 @@ module _ (f : List ℕ) (s : Server) (clear : Clear (portLines f s)) where
 -- An answered list in normal form is itself a curve that no line refuses.
 pub accepted-again :
     {ask : Question} {before after : List ℕ} {count : ℕ} {g : List ℕ}
-    → GoodList ask before after count g → NormalForm (buckets g) → Clear (curveLines g)
+    → AnsweredList ask before after count g → NormalForm (buckets g) → Clear (curveLines g)
 accepted-again {g = g} good form = clear-or (clear-or (clear-or list count) range) normal
   where
     long : length g ≡ 2 * length (buckets g)
@@ -211,7 +240,69 @@ excess-bounded {f} {rate} {m} form e = from (value-reached f (suc m) 1 (form .so
 
 -- ---- Demand 2: what is answered.
 
--- The curve behind: in normal form, a curve that no line refuses, and at every whole t its value is the greatest over whole u of
+-- A list is in normal form, is taken wherever a curve is, and has this value at every non-negative fraction p/q.
+pub record CurveRead (g : List ℕ) (value : ℕ → ℕ → ℕ) : Type 0 where
+  pub normal-form : NormalForm (buckets g)
+  pub accepted : Clear (curveLines g)
+  pub value-is : (p q : ℕ) → 0 < q → valueAt (buckets g) p q ≡ value p q
+
+read-curve :
+    {ask : Question} {before after : List ℕ} {count : ℕ} {g : List ℕ} {value : ℕ → ℕ → ℕ}
+    → AnsweredList ask before after count g → NormalForm (buckets g)
+    → ((p q : ℕ) → 0 < q → valueAt (buckets g) p q ≡ value p q) → CurveRead g value
+read-curve good form same = record { normal-form = form; accepted = accepted-again good form; value-is = same }
+
+-- normalise answers the raw list's value,
+pub answered-normalise :
+    (raw : List ℕ) {before after : List ℕ} {count : ℕ} → Outcome (normalising raw) before after 0 count
+    → CurveRead (listIn after count) (valueAt (buckets raw))
+unfolding normalising
+answered-normalise raw o =
+    let good = answered-list o in
+    read-curve good (good .right .form) (λ p q h. sym (good .right .same p q h))
+
+module _ (f g : List ℕ) where
+  both-form : Clear (curveLines f or curveLines g) → NormalForm (buckets f) × NormalForm (buckets g)
+  both-form clear = (clear-form f (λ r h. clear r (inl h)), clear-form g (λ r h. clear r (inr h)))
+
+  -- lower the minimum of the two,
+  pub answered-lower :
+      {before after : List ℕ} {count : ℕ} → Outcome (lowering f g) before after 0 count
+      → CurveRead (listIn after count) (λ p q. min (valueAt (buckets f) p q) (valueAt (buckets g) p q))
+  unfolding lowering
+  answered-lower o =
+      let good = answered-list o in
+      let forms = both-form (good .operands-clear) in
+      read-curve good (good .right .form) (lower-value (buckets f) (buckets g) (forms .0 .some) (forms .1 .some) (good .right))
+
+  -- sum the sum of the two,
+  pub answered-sum :
+      {before after : List ℕ} {count : ℕ} → Outcome (summing f g) before after 0 count
+      → CurveRead (listIn after count) (λ p q. valueAt (buckets f) p q + valueAt (buckets g) p q)
+  unfolding summing
+  answered-sum o =
+      let good = answered-list o in
+      let forms = both-form (good .operands-clear) in
+      read-curve good (good .right .form) (sum-value (buckets f) (buckets g) (forms .0 .some) (forms .1 .some) (good .right))
+
+-- the link's bucket (D, 0) has the value D·p/q
+link-value : (d p q : ℕ) → valueAt (linkBucket d ∷ []) p q ≡ d * p
+unfolding valueAt bucketAt
+link-value d p q = omega arith
+
+-- and shape the minimum of the curve and of what the link carries
+pub answered-shape :
+    (f : List ℕ) (d : ℕ) {before after : List ℕ} {count : ℕ} → Outcome (shaping f d) before after 0 count
+    → CurveRead (listIn after count) (λ p q. min (valueAt (buckets f) p q) (d * p))
+unfolding shaping
+answered-shape f d o =
+    let good = answered-list o in
+    read-curve good (good .right .form)
+    (λ p q h.
+    lower-value (buckets f) (linkBucket d ∷ []) (clear-form f (λ r l. good .operands-clear r (inl l)) .some) (lit≤ tt) (good .right) p q h
+    ∙ ap (min (valueAt (buckets f) p q)) (link-value d p q))
+
+-- The curve behind: in normal form, taken wherever a curve is, and at every whole t its value is the greatest over whole u of
 -- value(t+u) minus what is served by u.
 pub record BehindRead (f : List ℕ) (s : Server) (g : List ℕ) : Type 0 where
   pub definition : Behind (buckets f) s (buckets g)
@@ -219,11 +310,62 @@ pub record BehindRead (f : List ℕ) (s : Server) (g : List ℕ) : Type 0 where
   pub accepted : Clear (curveLines g)
   pub greatest : (t : ℕ) → GreatestGap (λ u. reads (buckets f) (t + u)) (served s) (tickValue (buckets g) t)
 
+-- An answered delay: it suffices at every whole tick, and no smaller number does.
+pub record DelayRead (f : List ℕ) (s : Server) (d : ℕ) : Type 0 where
+  pub suffices : (t : ℕ) → reads (buckets f) t ≤ served s (t + d)
+  pub no-less : (m : ℕ) → m < d → ((t : ℕ) → reads (buckets f) t ≤ served s (t + m)) → ⊥
+
+-- An answered residual: by its rule, and past its latency L it never serves more by tick t than R·(t-T) minus the cross curve's
+-- value at t-L.
+pub record ResidualRead (cross : List ℕ) (s left : Server) : Type 0 where
+  pub definition : Residual (buckets cross) s left
+  pub in-range : ServerInRange left
+  pub never-more :
+      (t : ℕ) → left .latency ≤ t
+      → served left t + reads (buckets cross) (t - left .latency) ≤ s .rate * (t - s .latency)
+
+-- An answered joined server: it serves by each tick the min-plus convolution of what the two serve.
+pub record JoinRead (s next joined : Server) : Type 0 where
+  pub definition : joined ≡ join s next
+  pub in-range : ServerInRange joined
+  pub convolution : (t : ℕ) → Convolution (served s) (served next) t (served joined t)
+
+-- where no line holds a figure is answered, and where it is answered none holds
+figure-clear :
+    {lines : Lines} {Figure : ℕ → Type 0} {code figure : ℕ}
+    → Clear lines → FigureOutcome lines Figure code figure → (code ≡ 0) × Figure figure
+figure-clear none (FigureOutcome.refused v) = absurd (refused-or-clear v none)
+figure-clear none (FigureOutcome.answered clear e x) = (e, x)
+
+figure-answered :
+    {lines : Lines} {Figure : ℕ → Type 0} {figure : ℕ} → FigureOutcome lines Figure 0 figure → Clear lines × Figure figure
+figure-answered (FigureOutcome.refused v) = absurd (omega (arith, v .code-is, number-positive (v .why)))
+figure-answered (FigureOutcome.answered clear e x) = (clear, x)
+
+-- no line holds of the operands of an answered server, and it is in range
+server-answered :
+    {operands : Lines} {Answer : Server → Type 0} {s : Server}
+    → ServerOutcome operands Answer 0 s → Clear operands × Answer s × ServerInRange s
+server-answered (ServerOutcome.refused v e) = absurd (omega (arith, v .code-is, number-positive (v .why)))
+server-answered {s = s} (ServerOutcome.answered clear e x) =
+    (λ r h. clear r (inl h), x, in-range s (λ out. clear LARGE (inr (refl, (s, x, out)))))
+
+pub answered-value :
+    (f : List ℕ) (t : ℕ) {figure : ℕ} → ValueOutcome f t 0 figure → figure ≡ tickValue (buckets f) t
+unfolding ValueOutcome
+answered-value f t o = figure-answered o .1
+
+pub answered-join : (s next : Server) {joined : Server} → JoinOutcome s next 0 joined → JoinRead s next joined
+unfolding JoinOutcome
+answered-join s next o =
+    let known = server-answered o in
+    record { definition = known .1; in-range = known .2; convolution = rw (known .1) (join-convolution s next) }
+
 module _ (f : List ℕ) (s : Server) where
-  pub behind-good :
-      {before after : List ℕ} {count : ℕ} {g : List ℕ} → GoodList (passing f s) before after count g → BehindRead f s g
+  read-behind :
+      {before after : List ℕ} {count : ℕ} {g : List ℕ} → AnsweredList (passing f s) before after count g → BehindRead f s g
   unfolding passing
-  behind-good good =
+  read-behind good =
       record {
         definition = good .right;
         normal-form = good .right .normal .form;
@@ -232,65 +374,32 @@ module _ (f : List ℕ) (s : Server) where
       }
 
   pub answered-behind :
-      (before after : List ℕ) (count : ℕ) → Outcome (passing f s) before after 0 count → BehindRead f s (listIn after count)
-  answered-behind before after count o = behind-good (answered-list (passing f s) before after count o)
+      {before after : List ℕ} {count : ℕ} → Outcome (passing f s) before after 0 count → BehindRead f s (listIn after count)
+  answered-behind o = read-behind (answered-list o)
 
--- A figure that is answered is the right one, and no line holds.
-figure-answered :
-    {lines : Lines} {Figure : ℕ → Type 0} {figure : ℕ} → FigureOutcome lines Figure 0 figure → Clear lines × Figure figure
-figure-answered (FigureOutcome.refused v) = absurd (omega (arith, v .code-is, number-positive (v .why)))
-figure-answered (FigureOutcome.answered clear e x) = (clear, x)
-
--- Where no line holds a figure is answered.
-figure-clear :
-    {lines : Lines} {Figure : ℕ → Type 0} {code figure : ℕ}
-    → Clear lines → FigureOutcome lines Figure code figure → (code ≡ 0) × Figure figure
-figure-clear none (FigureOutcome.refused v) = absurd (refused-or-clear v none)
-figure-clear none (FigureOutcome.answered clear e x) = (e, x)
-
--- The same of a server.
-server-answered :
-    {operands : Lines} {Answer : Server → Type 0} {s : Server}
-    → ServerOutcome operands Answer 0 s → Clear (withLarge operands Answer) × Answer s
-server-answered (ServerOutcome.refused v e) = absurd (omega (arith, v .code-is, number-positive (v .why)))
-server-answered (ServerOutcome.answered clear e x) = (clear, x)
-
-module _ (f : List ℕ) (s : Server) where
   -- an answered backlog is the greatest over whole u of value(u) minus what is served by u
-  pub answered-backlog : (n : ℕ) → BacklogOutcome f s 0 n → GreatestGap (reads (buckets f)) (served s) n
+  pub answered-backlog : {n : ℕ} → BacklogOutcome f s 0 n → GreatestGap (reads (buckets f)) (served s) n
   unfolding BacklogOutcome
-  answered-backlog n o = figure-answered o .1
+  answered-backlog o = figure-answered o .1
 
-  -- an answered delay suffices at every whole tick,
-  pub answered-delay : (d : ℕ) → DelayOutcome f s 0 d → (t : ℕ) → reads (buckets f) t ≤ served s (t + d)
+  pub answered-delay : {d : ℕ} → DelayOutcome f s 0 d → DelayRead f s d
   unfolding DelayOutcome
-  answered-delay d o = figure-answered o .1 .suffices
+  answered-delay o =
+      let known = figure-answered o .1 in
+      record { suffices = known .suffices; no-less = λ m less enough. omega (arith, known .smallest m enough) }
 
-  -- and no smaller number does
-  pub answered-delay-smallest :
-      (d : ℕ) → DelayOutcome f s 0 d → (m : ℕ) → m < d → ((t : ℕ) → reads (buckets f) t ≤ served s (t + m)) → ⊥
-  unfolding DelayOutcome
-  answered-delay-smallest d o m less enough = omega (arith, figure-answered o .1 .smallest m enough)
-
-  -- past its latency L an answered residual never serves more by tick t than R·(t-T) minus the cross curve's value at t-L
-  pub answered-residual :
-      (left : Server) → ResidualOutcome f s 0 left → (t : ℕ) → left .latency ≤ t
-      → served left t + reads (buckets f) (t - left .latency) ≤ s .rate * (t - s .latency)
+  pub answered-residual : {left : Server} → ResidualOutcome f s 0 left → ResidualRead f s left
   unfolding ResidualOutcome
-  answered-residual left o =
+  answered-residual o =
       let known = server-answered o in
       let clear = known .0 in
-      residual-law (clear-form f (λ r h. clear r (inl (inl (inl h)))) .some) (known .1)
-      (not-above (λ h. clear UNBOUNDED (inl (inr (refl, omega arith)))))
-
--- an answered joined server is in range, and serves by each tick the min-plus convolution of what the two serve
-pub answered-join :
-    (s next joined : Server) → JoinOutcome s next 0 joined
-    → ServerInRange joined × ((t : ℕ) → Convolution (served s) (served next) t (served joined t))
-unfolding JoinOutcome
-answered-join s next joined o =
-    let known = server-answered o in
-    (clear-server joined (λ r h. known .0 LARGE (inr (refl, (joined, known .1, h .1)))), rw (known .1) (join-convolution s next))
+      record {
+        definition = known .1;
+        in-range = known .2;
+        never-more =
+            residual-law (clear-form f (λ r h. clear r (inl (inl h))) .some) (known .1)
+            (not-above (λ h. clear UNBOUNDED (inr (refl, omega arith))));
+      }
 
 -- ---- Demand 3: hop by hop is one step through the joined server.
 
@@ -326,6 +435,8 @@ pub record OneStep (f : List ℕ) (s next joined : Server) (a g : List ℕ) : Ty
   -- (and there is such an outcome)
   pub one-step-has-an-outcome :
       (before : List ℕ) → length g ≤ length before → Outcome (passing f joined) before (over g before) 0 (length (buckets g))
+  -- (without room it is refused for that alone)
+  pub one-step-without-room : (before : List ℕ) → length before < length g → Outcome (passing f joined) before before 10 0
   -- both being the curve of demand 2.
   pub curve-of-the-one-step : BehindRead f joined g
   pub curve-of-the-hops : BehindRead a next g
@@ -337,19 +448,18 @@ pub record OneStep (f : List ℕ) (s next joined : Server) (a g : List ℕ) : Ty
       → (code″ ≡ 0) × (n ≤ d + e)
 
 -- what is known of a hop
-hop-read : {f : List ℕ} {s : Server} {g : List ℕ} (h : Hop f s g) → GoodList (passing f s) (h .before) (h .after) (h .count) g
-hop-read h = rw (h .list-is) at (answered-list _ _ _ _ (h .answered))
+hop-read : {f : List ℕ} {s : Server} {g : List ℕ} (h : Hop f s g) → AnsweredList (passing f s) (h .before) (h .after) (h .count) g
+hop-read h = rw (h .list-is) at (answered-list (h .answered))
 
 module _ {f : List ℕ} {s next joined : Server} {a g : List ℕ} (hops : TwoHops f s next joined a g) where
   first-behind : BehindRead f s a
-  first-behind = behind-good f s (hop-read (hops .first))
+  first-behind = read-behind f s (hop-read (hops .first))
 
   second-behind : BehindRead a next g
-  second-behind = behind-good a next (hop-read (hops .second))
+  second-behind = read-behind a next (hop-read (hops .second))
 
   joined-is : joined ≡ join s next
-  unfolding JoinOutcome
-  joined-is = server-answered (hops .joining) .1
+  joined-is = answered-join s next (hops .joining) .definition
 
   curve-clear : Clear (curveLines f)
   unfolding passing
@@ -364,7 +474,7 @@ module _ {f : List ℕ} {s next joined : Server} {a g : List ℕ} (hops : TwoHop
   -- no line holds of the curve and the joined server
   joined-clear : Clear (portLines f joined)
   joined-clear =
-      clear-or (clear-or curve-clear (λ r h. h .1 (answered-join s next joined (hops .joining) .0)))
+      clear-or (clear-or curve-clear (λ r h. h .1 (answered-join s next (hops .joining) .in-range)))
       (λ r h. omega (arith, h .1, excess-bounded (clear-form f curve-clear) (joined-behind .excess)))
 
   -- so the one step is answered with that list
@@ -377,11 +487,18 @@ module _ {f : List ℕ} {s next joined : Server} {a g : List ℕ} (hops : TwoHop
       (written-out (passing f joined) before joined-clear joined-behind (single-behind f joined) (good .fits)
       (rw (good .numbers) room))
 
+  step-short : (before : List ℕ) → length before < length g → Outcome (passing f joined) before before 10 0
+  unfolding passing
+  step-short before short =
+      let good = hop-read (hops .second) in
+      no-room (passing f joined) before joined-clear joined-behind (single-behind f joined) (good .fits) (rw (good .numbers) short)
+
+  -- and no other way
   step-same :
       {before after : List ℕ} {code count : ℕ}
       → Outcome (passing f joined) before after code count → length g ≤ length before → StepAnswered g before after code count
   step-same {before} {after} {code} {count} o room =
-      let same = one-behind f joined o (step-answered before room) in
+      let same = one-behind f joined .in-a-list o (step-answered before room) in
       let numbers : 2 * count ≡ length g =
       omega (arith, same .figure-same, flat-length (buckets g), ap length (hop-read (hops .second) .numbers)) in
       record {
@@ -397,7 +514,7 @@ module _ {f : List ℕ} {s next joined : Server} {a g : List ℕ} (hops : TwoHop
       let other = hop-read y in
       let e : buckets g ≡ buckets h =
       either-order (clear-form f curve-clear .some) (first-behind .definition) (second-behind .definition)
-      (behind-good f next (hop-read x) .definition) (behind-good b s other .definition) in
+      (read-behind f next (hop-read x) .definition) (read-behind b s other .definition) in
       sym (other .numbers) ∙ ap flat (sym e) ∙ hop-read (hops .second) .numbers
 
   -- the joined server's delay is at most the two hops' together
@@ -420,6 +537,7 @@ module _ {f : List ℕ} {s next joined : Server} {a g : List ℕ} (hops : TwoHop
       record {
         one-step-is-answered-too = step-same;
         one-step-has-an-outcome = step-answered;
+        one-step-without-room = step-short;
         curve-of-the-one-step =
             record {
               definition = joined-behind;
@@ -431,3 +549,56 @@ module _ {f : List ℕ} {s next joined : Server} {a g : List ℕ} (hops : TwoHop
         other-way-round = order-same;
         joined-delay-is-never-more = delay-less;
       }
+
+-- ---- A last rate above the server's.
+
+-- The lines of operands have numbers up to 8.
+pub curve-up-to : (f : List ℕ) → UpTo 8 (curveLines f)
+unfolding number
+curve-up-to f =
+    up-to-or (up-to-or (up-to-or (up-to-when LIST (lit≤ tt)) (up-to-when COUNT (lit≤ tt))) (up-to-when RANGE (lit≤ tt)))
+    (up-to-when FORM (lit≤ tt))
+
+pub server-up-to : (s : Server) → UpTo 8 (serverLines s)
+unfolding number
+server-up-to s = up-to-when RANGE (lit≤ tt)
+
+-- A curve and a server, and a bound that the last rate breaks.
+pub port-up-to : (f : List ℕ) (s : Server) {Broken : Type 0} → UpTo 8 (curveLines f or serverLines s or UNBOUNDED when Broken)
+unfolding number
+port-up-to f s = up-to-or (up-to-or (curve-up-to f) (server-up-to s)) (up-to-when UNBOUNDED (lit≤ tt))
+
+-- An operand of a question that a server answers is refused.
+pub server-refused :
+    {operands : Lines} {Answer : Server → Type 0} {code : ℕ}
+    → UpTo 8 operands → 1 ≤ code → Verdict operands code → ServerOutcome operands Answer code (record { rate = 0; latency = 0 })
+unfolding number
+server-refused h some v = ServerOutcome.refused (refusal [] some (refused-first h (from-when LARGE (lit≤ tt)) some v)) refl
+
+-- A curve and a server that no other line refuses: the last rate above R is UNBOUNDED, and nothing else comes of it.
+module _ (f : List ℕ) (s : Server) (curve : Clear (curveLines f)) (server : ServerInRange s) where
+  port-unbounded : {Broken : Type 0} → Broken → Verdict (curveLines f or serverLines s or UNBOUNDED when Broken) 8
+  unfolding number
+  port-unbounded broken = refused-then (accepted (clear-or curve (λ r h. h .1 server)) refl) (line-hit UNBOUNDED broken)
+
+  module _ (above : s .rate < last (buckets f) .rate) where
+    pub unbounded-behind :
+        {before after : List ℕ} {code count : ℕ} → Outcome (passing f s) before after code count
+        → Same code count 8 0 after before
+    unfolding passing
+    unbounded-behind {before} o =
+        one-behind f s .in-a-list o (refuse (passing f s) before (port-up-to f s) (lit≤ tt) (port-unbounded above))
+
+    pub unbounded-backlog : {code n : ℕ} → BacklogOutcome f s code n → (code ≡ 8) × (n ≡ 0)
+    unfolding BacklogOutcome
+    unbounded-backlog o = one-backlog f s o (FigureOutcome.refused (refusal [] (lit≤ tt) (port-unbounded above)))
+
+    pub unbounded-delay : {code n : ℕ} → DelayOutcome f s code n → (code ≡ 8) × (n ≡ 0)
+    unfolding DelayOutcome
+    unbounded-delay o = one-delay f s o (FigureOutcome.refused (refusal [] (lit≤ tt) (port-unbounded above)))
+
+  pub unbounded-residual :
+      {code : ℕ} {left : Server} → s .rate ≤ last (buckets f) .rate → ResidualOutcome f s code left
+      → (code ≡ 8) × (left ≡ record { rate = 0; latency = 0 })
+  unfolding ResidualOutcome
+  unbounded-residual above o = one-residual f s o (server-refused (port-up-to f s) (lit≤ tt) (port-unbounded above))
