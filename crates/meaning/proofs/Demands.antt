@@ -1,19 +1,22 @@
--- What is demanded of the answers, of the contracts themselves, as a planner reads them.
+-- Demands 2 and 3 as theorems about the contracts, over what a caller has in hand: the numbers lent, the codes and figures
+-- answered, and the lists afterwards. Each question leaves one outcome. What is answered is what the min-plus definitions give at
+-- whole ticks, and an answered list is in normal form and taken wherever a curve is. Two answered hops are one answered step
+-- through the joined server, either way round, and its delay is at most the two added. A last rate above the server's is 8.
 -- Assumes nothing.
 use mathlib.Core.Path.{_≡_, refl, sym, _∙_, ap}
 use mathlib.Core.Logic.{_⊎_, inl, inr}
 use mathlib.Core.Bool.{Bool, true, false}
-use mathlib.Core.List.{List, [], _∷_, _++_, List·Memᴰ·head, List·Memᴰ·tail, List·Memᴰ·cases-cons}
-use Prim.Native.Nat.{ℕ, suc, _+_, _-_, _*_, _%_, _^_, _≤_, _<_, min}
+use mathlib.Core.List.{List, [], _∷_, _++_, List·Memᴰ·cases-cons}
+use Prim.Native.Nat.{ℕ, suc, _+_, _-_, _*_, _%_, _≤_, _<_, min}
 use native.Mathlib.Nat.{le-refl, le-trans, le-of-lt, mul-le-mul-right}
 use native.Mathlib.Omega.{arith}
-use lib.ListN.{length, take, drop}
+use lib.ListN.{length, take}
 use lib.Dec.{lit≤}
 use Rattle.meaning.specs.Curve.{Bucket, _∈_, buckets, flat, bucketAt, valueAt, tickValue, Falling, NormalForm, NormalOf, pairs}
-use Rattle.meaning.specs.Server.{Server, served, reads, GreatestGap, Excess, join, Behind, Backlog, Delay, Residual, last}
+use Rattle.meaning.specs.Server.{Server, served, reads, GreatestGap, Excess, join, Behind, Delay, Residual, last}
 use Rattle.meaning.specs.CurveQuestions.{normalising, lowering, summing, shaping, ValueOutcome}
-use Rattle.meaning.specs.Refusal.{Refusal, LIST, COUNT, RANGE, FORM, UNBOUNDED, LARGE, ROOM, number, Lines, _when_, _or_, Clear, Verdict, accepted, AllInRange, TooLarge, rawLines, curveLines, over, Refused, Answered, Question, allLines, Outcome, PartOutcome, FigureOutcome}
-use Rattle.meaning.specs.ServerQuestions.{ServerInRange, serverLines, portLines, passing, BacklogOutcome, DelayOutcome, withLarge, ServerOutcome, JoinOutcome, ResidualOutcome}
+use Rattle.meaning.specs.Refusal.{LIST, COUNT, RANGE, FORM, UNBOUNDED, LARGE, ROOM, number, Lines, _when_, _or_, Clear, Verdict, accepted, AllInRange, TooLarge, rawLines, curveLines, over, Answered, Question, allLines, Outcome, part, PartOutcome, FigureOutcome}
+use Rattle.meaning.specs.ServerQuestions.{ServerInRange, serverLines, portLines, passing, BacklogOutcome, DelayOutcome, ServerOutcome, JoinOutcome, ResidualOutcome}
 use Rattle.meaning.specs.Computed.{isNormal}
 use Rattle.meaning.proofs.Order.{le-or-lt}
 use Rattle.meaning.proofs.Value.{Reached, value-reached}
@@ -45,6 +48,7 @@ pub record OneOutcome (ask : Question) : Type 0 where
       → PartOutcome ask at room before after code count → PartOutcome ask at room before after′ code′ count′
       → Same code count code′ count′ after after′
 
+-- where one curve answers there is one outcome
 one-curve : (ask : Question) → Single (ask .Answer) → OneOutcome ask
 one-curve ask one = record { in-a-list = one-outcome one; in-a-part = one-part-outcome one }
 
@@ -59,9 +63,10 @@ one-server one (ServerOutcome.answered clear e x) (ServerOutcome.refused w e′)
 one-server one (ServerOutcome.answered clear e x) (ServerOutcome.answered clear′ e′ x′) = (e ∙ sym e′, one _ _ x x′)
 
 -- one list is the normal form
-single-normal : (raw : List Bucket) → Single (NormalOf raw)
+pub single-normal : (raw : List Bucket) → Single (NormalOf raw)
 single-normal raw f g x y = normal-of-unique x y
 
+-- normalise, lower, sum and shape leave one outcome each,
 pub one-normalise : (raw : List ℕ) → OneOutcome (normalising raw)
 unfolding normalising
 one-normalise raw = one-curve (normalising raw) (single-normal (buckets raw))
@@ -78,12 +83,14 @@ pub one-shape : (f : List ℕ) (d : ℕ) → OneOutcome (shaping f d)
 unfolding shaping
 one-shape f d = one-curve (shaping f d) (single-normal (buckets f ++ linkBucket d ∷ []))
 
+-- value one,
 pub one-value :
     (f : List ℕ) (t : ℕ) {code figure code′ figure′ : ℕ} → ValueOutcome f t code figure → ValueOutcome f t code′ figure′
     → (code ≡ code′) × (figure ≡ figure′)
 unfolding ValueOutcome
 one-value f t = one-figure (λ m n e e′. e ∙ sym e′)
 
+-- join one,
 pub one-join :
     (s next : Server) {code code′ : ℕ} {joined joined′ : Server}
     → JoinOutcome s next code joined → JoinOutcome s next code′ joined′ → (code ≡ code′) × (joined ≡ joined′)
@@ -91,25 +98,30 @@ unfolding JoinOutcome
 one-join s next = one-server (λ x y e e′. e ∙ sym e′)
 
 module _ (f : List ℕ) (s : Server) where
-  single-behind : Single (passing f s .Answer)
+  -- one curve stands behind the server
+  pub single-behind : Single (passing f s .Answer)
   unfolding passing
   single-behind g h x y = behind-unique x y
 
+  -- behind one,
   pub one-behind : OneOutcome (passing f s)
   one-behind = one-curve (passing f s) single-behind
 
+  -- backlog one,
   pub one-backlog :
       {code figure code′ figure′ : ℕ} → BacklogOutcome f s code figure → BacklogOutcome f s code′ figure′
       → (code ≡ code′) × (figure ≡ figure′)
   unfolding BacklogOutcome
   one-backlog = one-figure (λ m n x y. gap-unique x y)
 
+  -- delay one,
   pub one-delay :
       {code figure code′ figure′ : ℕ} → DelayOutcome f s code figure → DelayOutcome f s code′ figure′
       → (code ≡ code′) × (figure ≡ figure′)
   unfolding DelayOutcome
   one-delay = one-figure (λ m n x y. smallest-unique x y)
 
+  -- and residual one
   pub one-residual :
       {code code′ : ℕ} {left left′ : Server} → ResidualOutcome f s code left → ResidualOutcome f s code′ left′
       → (code ≡ code′) × (left ≡ left′)
@@ -122,7 +134,8 @@ module _ (f : List ℕ) (s : Server) where
 abbrev pub listIn : List ℕ → ℕ → List ℕ
 listIn after count = take (2 * count) after
 
--- What holds of a list that is answered.
+-- A list g that is answered: no line holds of the operands, it is the exact answer and not too large, and it stands in the lent
+-- list, with its count.
 pub record AnsweredList (ask : Question) (before after : List ℕ) (count : ℕ) (g : List ℕ) : Type 0 where
   pub operands-clear : Clear (ask .operands)
   pub right : ask .Answer (buckets g)
@@ -132,6 +145,14 @@ pub record AnsweredList (ask : Question) (before after : List ℕ) (count : ℕ)
   pub room : length g ≤ length before
   pub written : after ≡ over g before
 
+-- what is not above is at most
+pub not-above : {a b : ℕ} → (b < a → ⊥) → a ≤ b
+not-above {a} {b} h = split (le-or-lt a b)
+  where
+    split : (a ≤ b) ⊎ (b < a) → a ≤ b
+    split (inl l) = l
+    split (inr l) = absurd (h l)
+
 module _ {ask : Question} {before after : List ℕ} {count : ℕ} where
   -- the numbers of a curve that is written are read back
   read-back : (v : Answered (allLines ask (length before)) (ask .Answer) before after 0 count) → listIn after count ≡ flat (v .curve)
@@ -139,6 +160,7 @@ module _ {ask : Question} {before after : List ℕ} {count : ℕ} where
       let n : 2 * count ≡ length (flat (v .curve)) = omega (arith, v .count-is, flat-length (v .curve)) in
       rw (n, v .written) (over-start (flat (v .curve)) before)
 
+  -- what is known of a list that is answered
   pub answered-list : Outcome ask before after 0 count → AnsweredList ask before after count (listIn after count)
   answered-list (Outcome.refused v) = absurd (omega (arith, v .code-is, number-positive (v .why)))
   answered-list (Outcome.answered v) =
@@ -149,48 +171,53 @@ module _ {ask : Question} {before after : List ℕ} {count : ℕ} where
         fits = rw (buckets-flat (v .curve)) (λ large. v .clear LARGE (inr (inl (refl, (v .curve, v .right, large)))));
         count-is = rw (buckets-flat (v .curve)) (v .count-is);
         numbers = rw (buckets-flat (v .curve));
-        room = has-room (le-or-lt (length (flat (v .curve))) (length before));
+        room = not-above (λ short. v .clear ROOM (inr (inr (refl, (v .curve, v .right, short)))));
         written = v .written;
       })
-    where
-      has-room : (length (flat (v .curve)) ≤ length before) ⊎ (length before < length (flat (v .curve))) → length (flat (v .curve)) ≤ length before
-      has-room (inl h) = h
-      has-room (inr h) = absurd (v .clear ROOM (inr (inr (refl, (v .curve, v .right, h)))))
+
+-- it has two numbers for each bucket
+answered-length :
+    {ask : Question} {before after : List ℕ} {count : ℕ} {g : List ℕ} → AnsweredList ask before after count g
+    → length g ≡ 2 * length (buckets g)
+answered-length {g = g} good = ap length (sym (good .numbers)) ∙ flat-length (buckets g)
 
 -- ---- What is known of operands that no line refuses.
 
--- what is not above is at most
-not-above : {a b : ℕ} → (b < a → ⊥) → a ≤ b
-not-above {a} {b} h = split (le-or-lt a b)
+-- a list is in normal form or it is not
+pub decide-normal : (f : List Bucket) → Dec (NormalForm f)
+decide-normal f = split (isNormal f) refl
   where
-    split : (a ≤ b) ⊎ (b < a) → a ≤ b
-    split (inl l) = l
-    split (inr l) = absurd (h l)
+    split : (t : Bool) → isNormal f ≡ t → Dec (NormalForm f)
+    split true e = yes (neighbours-sound f e)
+    split false e = no (neighbours-refute f e)
 
 -- a curve is in normal form
 pub clear-form : (f : List ℕ) → Clear (curveLines f) → NormalForm (buckets f)
-clear-form f clear = decided (isNormal (buckets f)) refl
+clear-form f clear = split (decide-normal (buckets f))
   where
-    decided : (t : Bool) → isNormal (buckets f) ≡ t → NormalForm (buckets f)
-    decided true e = neighbours-sound (buckets f) e
-    decided false e = absurd (clear FORM (inr (refl, neighbours-refute (buckets f) e)))
+    split : Dec (NormalForm (buckets f)) → NormalForm (buckets f)
+    split (yes n) = n
+    split (no out) = absurd (clear FORM (inr (refl, out)))
 
 -- a server that is not out of range is in range
-in-range : (s : Server) → ((ServerInRange s → ⊥) → ⊥) → ServerInRange s
-in-range s not-out =
+pub server-in-range : (s : Server) → ((ServerInRange s → ⊥) → ⊥) → ServerInRange s
+server-in-range s not-out =
     record {
       rate-some = not-above (λ h. not-out (λ r. omega (arith, r .rate-some)));
       rate-fits = not-above (λ h. not-out (λ r. omega (arith, r .rate-fits)));
       latency-fits = not-above (λ h. not-out (λ r. omega (arith, r .latency-fits)));
     }
 
--- The lines of a curve and a server, one after the other.
-module _ (f : List ℕ) (s : Server) (clear : Clear (portLines f s)) where
-  clear-curve : Clear (curveLines f)
-  clear-curve r h = clear r (inl (inl h))
+-- Of a curve and a server: the curve is not refused, it is in normal form, and the server is in range.
+module _ (f : List ℕ) (s : Server) {Broken : Type 0} (clear : Clear (curveLines f or serverLines s or UNBOUNDED when Broken)) where
+  pub port-curve : Clear (curveLines f)
+  port-curve r h = clear r (inl (inl h))
 
-  port-form : NormalForm (buckets f)
-  port-form = clear-form f clear-curve
+  pub port-form : NormalForm (buckets f)
+  port-form = clear-form f port-curve
+
+  pub port-server : ServerInRange s
+  port-server = server-in-range s (λ out. clear RANGE (inl (inr (refl, out))))
 
 -- An answered list in normal form is itself a curve that no line refuses.
 pub accepted-again :
@@ -198,12 +225,9 @@ pub accepted-again :
     → AnsweredList ask before after count g → NormalForm (buckets g) → Clear (curveLines g)
 accepted-again {g = g} good form = clear-or (clear-or (clear-or list count) range) normal
   where
-    long : length g ≡ 2 * length (buckets g)
-    long = ap length (sym (good .numbers)) ∙ flat-length (buckets g)
-
     list : Clear (LIST when ((length g ≡ 0) ⊎ (length g % 2 ≡ 1)))
-    list r (e, inl h) = omega (arith, long, form .some)
-    list r (e, inr h) = omega (arith, long, buckets-use g)
+    list r (e, inl h) = omega (arith, answered-length good, form .some)
+    list r (e, inr h) = omega (arith, answered-length good, buckets-use g)
 
     count : Clear (COUNT when (64 < length (buckets g)))
     count r h = good .fits (inl (h .1))
@@ -246,6 +270,7 @@ pub record CurveRead (g : List ℕ) (value : ℕ → ℕ → ℕ) : Type 0 where
   pub accepted : Clear (curveLines g)
   pub value-is : (p q : ℕ) → 0 < q → valueAt (buckets g) p q ≡ value p q
 
+-- so of a list that is answered
 read-curve :
     {ask : Question} {before after : List ℕ} {count : ℕ} {g : List ℕ} {value : ℕ → ℕ → ℕ}
     → AnsweredList ask before after count g → NormalForm (buckets g)
@@ -262,7 +287,8 @@ answered-normalise raw o =
     read-curve good (good .right .form) (λ p q h. sym (good .right .same p q h))
 
 module _ (f g : List ℕ) where
-  both-form : Clear (curveLines f or curveLines g) → NormalForm (buckets f) × NormalForm (buckets g)
+  -- both are in normal form
+  pub both-form : Clear (curveLines f or curveLines g) → NormalForm (buckets f) × NormalForm (buckets g)
   both-form clear = (clear-form f (λ r h. clear r (inl h)), clear-form g (λ r h. clear r (inr h)))
 
   -- lower the minimum of the two,
@@ -297,10 +323,9 @@ pub answered-shape :
 unfolding shaping
 answered-shape f d o =
     let good = answered-list o in
-    read-curve good (good .right .form)
-    (λ p q h.
-    lower-value (buckets f) (linkBucket d ∷ []) (clear-form f (λ r l. good .operands-clear r (inl l)) .some) (lit≤ tt) (good .right) p q h
-    ∙ ap (min (valueAt (buckets f) p q)) (link-value d p q))
+    let form = clear-form f (λ r l. good .operands-clear r (inl l)) in
+    let lower = lower-value (buckets f) (linkBucket d ∷ []) (form .some) (lit≤ tt) (good .right) in
+    read-curve good (good .right .form) (λ p q h. lower p q h ∙ ap (min (valueAt (buckets f) p q)) (link-value d p q))
 
 -- The curve behind: in normal form, taken wherever a curve is, and at every whole t its value is the greatest over whole u of
 -- value(t+u) minus what is served by u.
@@ -348,13 +373,15 @@ server-answered :
     → ServerOutcome operands Answer 0 s → Clear operands × Answer s × ServerInRange s
 server-answered (ServerOutcome.refused v e) = absurd (omega (arith, v .code-is, number-positive (v .why)))
 server-answered {s = s} (ServerOutcome.answered clear e x) =
-    (λ r h. clear r (inl h), x, in-range s (λ out. clear LARGE (inr (refl, (s, x, out)))))
+    (λ r h. clear r (inl h), x, server-in-range s (λ out. clear LARGE (inr (refl, (s, x, out)))))
 
+-- an answered value is the curve's at the tick
 pub answered-value :
     (f : List ℕ) (t : ℕ) {figure : ℕ} → ValueOutcome f t 0 figure → figure ≡ tickValue (buckets f) t
 unfolding ValueOutcome
 answered-value f t o = figure-answered o .1
 
+-- what is answered to join,
 pub answered-join : (s next : Server) {joined : Server} → JoinOutcome s next 0 joined → JoinRead s next joined
 unfolding JoinOutcome
 answered-join s next o =
@@ -373,21 +400,24 @@ module _ (f : List ℕ) (s : Server) where
         greatest = behind-greatest (port-form f s (good .operands-clear) .some) (good .right);
       }
 
+  -- to behind,
   pub answered-behind :
       {before after : List ℕ} {count : ℕ} → Outcome (passing f s) before after 0 count → BehindRead f s (listIn after count)
   answered-behind o = read-behind (answered-list o)
 
-  -- an answered backlog is the greatest over whole u of value(u) minus what is served by u
+  -- to backlog: the greatest over whole u of value(u) minus what is served by u
   pub answered-backlog : {n : ℕ} → BacklogOutcome f s 0 n → GreatestGap (reads (buckets f)) (served s) n
   unfolding BacklogOutcome
   answered-backlog o = figure-answered o .1
 
+  -- to delay,
   pub answered-delay : {d : ℕ} → DelayOutcome f s 0 d → DelayRead f s d
   unfolding DelayOutcome
   answered-delay o =
       let known = figure-answered o .1 in
       record { suffices = known .suffices; no-less = λ m less enough. omega (arith, known .smallest m enough) }
 
+  -- and to residual
   pub answered-residual : {left : Server} → ResidualOutcome f s 0 left → ResidualRead f s left
   unfolding ResidualOutcome
   answered-residual o =
@@ -397,14 +427,13 @@ module _ (f : List ℕ) (s : Server) where
         definition = known .1;
         in-range = known .2;
         never-more =
-            residual-law (clear-form f (λ r h. clear r (inl (inl h))) .some) (known .1)
+            residual-law (port-form f s clear .some) (known .1)
             (not-above (λ h. clear UNBOUNDED (inr (refl, omega arith))));
       }
 
 -- ---- Demand 3: hop by hop is one step through the joined server.
 
 -- A hop that is answered: the curve f, passed through the server s, and the list g that stands in the lent list afterwards.
--- (Where the output is a part of a table, `inside` of its outcome is the outcome.)
 pub record Hop (f : List ℕ) (s : Server) (g : List ℕ) : Type 0 where
   pub before : List ℕ
   pub after : List ℕ
@@ -412,30 +441,36 @@ pub record Hop (f : List ℕ) (s : Server) (g : List ℕ) : Type 0 where
   pub answered : Outcome (passing f s) before after 0 count
   pub list-is : listIn after count ≡ g
 
+-- The same where the output is a part of a table.
+pub hop-in-part :
+    (f : List ℕ) (s : Server) {at room : ℕ} {before after : List ℕ} {count : ℕ}
+    → PartOutcome (passing f s) at room before after 0 count → Hop f s (listIn (part at room after) count)
+hop-in-part f s o = record { before = _; after = _; count = _; answered = o .inside; list-is = refl }
+
 -- A curve and two servers where both hops and the joining of the servers are answered.
 pub record TwoHops (f : List ℕ) (s next joined : Server) (a g : List ℕ) : Type 0 where
   pub first : Hop f s a
   pub second : Hop a next g
   pub joining : JoinOutcome s next 0 joined
 
--- The one step is answered, with the list g.
-pub record StepAnswered (g before after : List ℕ) (code count : ℕ) : Type 0 where
+-- An outcome is the answer g, of n buckets.
+pub record AnsweredWith (g : List ℕ) (n : ℕ) (before after : List ℕ) (code count : ℕ) : Type 0 where
   pub code-is-0 : code ≡ 0
-  pub count-is-the-same : count ≡ length (buckets g)
+  pub count-is-the-same : count ≡ n
   pub list-is-the-same : listIn after count ≡ g
   pub beyond-stays : after ≡ over g before
 
--- What then holds.
-pub record OneStep (f : List ℕ) (s next joined : Server) (a g : List ℕ) : Type 0 where
+-- What then holds, n being the second hop's count.
+pub record OneStep (f : List ℕ) (s next joined : Server) (a g : List ℕ) (n : ℕ) : Type 0 where
   -- The one step through the joined server, given room for its list, is answered too, and its curve is, bucket for bucket, the
-  -- hop-by-hop curve,
+  -- hop-by-hop curve
   pub one-step-is-answered-too :
       {before after : List ℕ} {code count : ℕ}
-      → Outcome (passing f joined) before after code count → length g ≤ length before → StepAnswered g before after code count
-  -- (and there is such an outcome)
+      → Outcome (passing f joined) before after code count → length g ≤ length before → AnsweredWith g n before after code count
+  -- (there is such an outcome,
   pub one-step-has-an-outcome :
-      (before : List ℕ) → length g ≤ length before → Outcome (passing f joined) before (over g before) 0 (length (buckets g))
-  -- (without room it is refused for that alone)
+      (before : List ℕ) → length g ≤ length before → Outcome (passing f joined) before (over g before) 0 n
+  -- and without room it is refused for that alone),
   pub one-step-without-room : (before : List ℕ) → length before < length g → Outcome (passing f joined) before before 10 0
   -- both being the curve of demand 2.
   pub curve-of-the-one-step : BehindRead f joined g
@@ -452,70 +487,79 @@ hop-read : {f : List ℕ} {s : Server} {g : List ℕ} (h : Hop f s g) → Answer
 hop-read h = rw (h .list-is) at (answered-list (h .answered))
 
 module _ {f : List ℕ} {s next joined : Server} {a g : List ℕ} (hops : TwoHops f s next joined a g) where
+  -- both hops are the curves behind their servers,
   first-behind : BehindRead f s a
   first-behind = read-behind f s (hop-read (hops .first))
 
+  last-list : AnsweredList (passing a next) (hops .second .before) (hops .second .after) (hops .second .count) g
+  last-list = hop-read (hops .second)
+
   second-behind : BehindRead a next g
-  second-behind = read-behind a next (hop-read (hops .second))
+  second-behind = read-behind a next last-list
 
   joined-is : joined ≡ join s next
   joined-is = answered-join s next (hops .joining) .definition
 
   curve-clear : Clear (curveLines f)
   unfolding passing
-  curve-clear = clear-curve f s (hop-read (hops .first) .operands-clear)
+  curve-clear = port-curve f s (hop-read (hops .first) .operands-clear)
 
-  -- the hop-by-hop list stands behind the joined server
+  curve-form : NormalForm (buckets f)
+  curve-form = clear-form f curve-clear
+
+  -- the second hop's curve stands behind the joined server,
   joined-behind : Behind (buckets f) joined (buckets g)
-  joined-behind =
-      rw joined-is
-      (hop-by-hop (clear-form f curve-clear .some) (first-behind .definition) (second-behind .definition))
+  joined-behind = rw joined-is (hop-by-hop (curve-form .some) (first-behind .definition) (second-behind .definition))
 
-  -- no line holds of the curve and the joined server
+  -- no line holds of the first curve and the joined server,
   joined-clear : Clear (portLines f joined)
   joined-clear =
       clear-or (clear-or curve-clear (λ r h. h .1 (answered-join s next (hops .joining) .in-range)))
-      (λ r h. omega (arith, h .1, excess-bounded (clear-form f curve-clear) (joined-behind .excess)))
+      (λ r h. omega (arith, h .1, excess-bounded curve-form (joined-behind .excess)))
 
-  -- so the one step is answered with that list
+  -- so the one step is answered with that list, given room,
   step-answered :
-      (before : List ℕ) → length g ≤ length before → Outcome (passing f joined) before (over g before) 0 (length (buckets g))
+      (before : List ℕ) → length g ≤ length before → Outcome (passing f joined) before (over g before) 0 (hops .second .count)
   unfolding passing
   step-answered before room =
-      let good = hop-read (hops .second) in
-      rw (good .numbers) at
-      (written-out (passing f joined) before joined-clear joined-behind (single-behind f joined) (good .fits)
-      (rw (good .numbers) room))
+      rw (last-list .count-is)
+      (rw (last-list .numbers) at
+      (written-out (passing f joined) before joined-clear joined-behind (single-behind f joined) (last-list .fits)
+      (rw (last-list .numbers) room)))
 
+  -- refused without,
   step-short : (before : List ℕ) → length before < length g → Outcome (passing f joined) before before 10 0
   unfolding passing
   step-short before short =
-      let good = hop-read (hops .second) in
-      no-room (passing f joined) before joined-clear joined-behind (single-behind f joined) (good .fits) (rw (good .numbers) short)
+      no-room (passing f joined) before joined-clear joined-behind (single-behind f joined) (last-list .fits)
+      (rw (last-list .numbers) short)
 
-  -- and no other way
+  -- and nothing else comes of it
   step-same :
-      {before after : List ℕ} {code count : ℕ}
-      → Outcome (passing f joined) before after code count → length g ≤ length before → StepAnswered g before after code count
+      {before after : List ℕ} {code count : ℕ} → Outcome (passing f joined) before after code count → length g ≤ length before
+      → AnsweredWith g (hops .second .count) before after code count
   step-same {before} {after} {code} {count} o room =
-      let same = one-behind f joined .in-a-list o (step-answered before room) in
-      let numbers : 2 * count ≡ length g =
-      omega (arith, same .figure-same, flat-length (buckets g), ap length (hop-read (hops .second) .numbers)) in
       record {
         code-is-0 = same .code-same;
         count-is-the-same = same .figure-same;
         list-is-the-same = rw (numbers, same .after-same) (over-start g before);
         beyond-stays = same .after-same;
       }
+    where
+      same : Same code count 0 (hops .second .count) after (over g before)
+      same = one-behind f joined .in-a-list o (step-answered before room)
+
+      numbers : 2 * count ≡ length g
+      numbers = omega (arith, same .figure-same, last-list .count-is, answered-length last-list)
 
   -- the other way round the list is the same
   order-same : {b h : List ℕ} → Hop f next b → Hop b s h → h ≡ g
-  order-same {b} {h} x y =
-      let other = hop-read y in
-      let e : buckets g ≡ buckets h =
-      either-order (clear-form f curve-clear .some) (first-behind .definition) (second-behind .definition)
-      (read-behind f next (hop-read x) .definition) (read-behind b s other .definition) in
-      sym (other .numbers) ∙ ap flat (sym e) ∙ hop-read (hops .second) .numbers
+  order-same {b} {h} x y = sym (hop-read y .numbers) ∙ ap flat (sym curves) ∙ last-list .numbers
+    where
+      curves : buckets g ≡ buckets h
+      curves =
+          either-order (curve-form .some) (first-behind .definition) (second-behind .definition)
+          (read-behind f next (hop-read x) .definition) (read-behind b s (hop-read y) .definition)
 
   -- the joined server's delay is at most the two hops' together
   delay-less :
@@ -523,16 +567,17 @@ module _ {f : List ℕ} {s next joined : Server} {a g : List ℕ} (hops : TwoHop
       → (code″ ≡ 0) × (n ≤ d + e)
   unfolding DelayOutcome passing
   delay-less code d code′ e code″ n x y z =
-      let through = figure-clear joined-clear z in (
-        through .0,
-        joined-delay next (clear-form f curve-clear .some) (first-behind .definition)
-            (figure-clear (hop-read (hops .first) .operands-clear) x .1)
-            (figure-clear (hop-read (hops .second) .operands-clear) y .1)
-            (rw joined-is at (through .1)),
-      )
+      let through = figure-clear joined-clear z in
+      (through .0, bound (through .1))
+    where
+      bound : Delay (buckets f) joined n → n ≤ d + e
+      bound through =
+          joined-delay next (curve-form .some) (first-behind .definition)
+          (figure-clear (hop-read (hops .first) .operands-clear) x .1) (figure-clear (last-list .operands-clear) y .1)
+          (rw joined-is at through)
 
   -- Demand 3.
-  pub hop-by-hop-is-one-step : OneStep f s next joined a g
+  pub hop-by-hop-is-one-step : OneStep f s next joined a g (hops .second .count)
   hop-by-hop-is-one-step =
       record {
         one-step-is-answered-too = step-same;
@@ -543,7 +588,7 @@ module _ {f : List ℕ} {s next joined : Server} {a g : List ℕ} (hops : TwoHop
               definition = joined-behind;
               normal-form = second-behind .normal-form;
               accepted = second-behind .accepted;
-              greatest = behind-greatest (clear-form f curve-clear .some) joined-behind;
+              greatest = behind-greatest (curve-form .some) joined-behind;
             };
         curve-of-the-hops = second-behind;
         other-way-round = order-same;
@@ -553,11 +598,13 @@ module _ {f : List ℕ} {s next joined : Server} {a g : List ℕ} (hops : TwoHop
 -- ---- A last rate above the server's.
 
 -- The lines of operands have numbers up to 8.
+pub raw-up-to : (l : List ℕ) → UpTo 8 (rawLines l)
+unfolding number
+raw-up-to l = up-to-or (up-to-or (up-to-when LIST (lit≤ tt)) (up-to-when COUNT (lit≤ tt))) (up-to-when RANGE (lit≤ tt))
+
 pub curve-up-to : (f : List ℕ) → UpTo 8 (curveLines f)
 unfolding number
-curve-up-to f =
-    up-to-or (up-to-or (up-to-or (up-to-when LIST (lit≤ tt)) (up-to-when COUNT (lit≤ tt))) (up-to-when RANGE (lit≤ tt)))
-    (up-to-when FORM (lit≤ tt))
+curve-up-to f = up-to-or (raw-up-to f) (up-to-when FORM (lit≤ tt))
 
 pub server-up-to : (s : Server) → UpTo 8 (serverLines s)
 unfolding number
@@ -577,11 +624,13 @@ server-refused h some v = ServerOutcome.refused (refusal [] some (refused-first 
 
 -- A curve and a server that no other line refuses: the last rate above R is UNBOUNDED, and nothing else comes of it.
 module _ (f : List ℕ) (s : Server) (curve : Clear (curveLines f)) (server : ServerInRange s) where
+  -- the code is 8
   port-unbounded : {Broken : Type 0} → Broken → Verdict (curveLines f or serverLines s or UNBOUNDED when Broken) 8
   unfolding number
   port-unbounded broken = refused-then (accepted (clear-or curve (λ r h. h .1 server)) refl) (line-hit UNBOUNDED broken)
 
   module _ (above : s .rate < last (buckets f) .rate) where
+    -- behind: with no count, and the lent list as it was
     pub unbounded-behind :
         {before after : List ℕ} {code count : ℕ} → Outcome (passing f s) before after code count
         → Same code count 8 0 after before
@@ -589,6 +638,7 @@ module _ (f : List ℕ) (s : Server) (curve : Clear (curveLines f)) (server : Se
     unbounded-behind {before} o =
         one-behind f s .in-a-list o (refuse (passing f s) before (port-up-to f s) (lit≤ tt) (port-unbounded above))
 
+    -- backlog and delay: with no figure
     pub unbounded-backlog : {code n : ℕ} → BacklogOutcome f s code n → (code ≡ 8) × (n ≡ 0)
     unfolding BacklogOutcome
     unbounded-backlog o = one-backlog f s o (FigureOutcome.refused (refusal [] (lit≤ tt) (port-unbounded above)))
@@ -597,6 +647,7 @@ module _ (f : List ℕ) (s : Server) (curve : Clear (curveLines f)) (server : Se
     unfolding DelayOutcome
     unbounded-delay o = one-delay f s o (FigureOutcome.refused (refusal [] (lit≤ tt) (port-unbounded above)))
 
+  -- residual, already where the last rate is R: with no server
   pub unbounded-residual :
       {code : ℕ} {left : Server} → s .rate ≤ last (buckets f) .rate → ResidualOutcome f s code left
       → (code ≡ 8) × (left ≡ record { rate = 0; latency = 0 })

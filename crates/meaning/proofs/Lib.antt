@@ -18,3 +18,4 @@ pub mod Profiles
 pub mod Figures
 pub mod Lists
 pub mod Demands
+pub mod EveryInput
