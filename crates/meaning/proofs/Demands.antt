@@ -1,0 +1,655 @@
+-- Demands 2 and 3 as theorems about the contracts, over what a caller has in hand: the numbers lent, the codes and figures
+-- answered, and the lists afterwards. Each question leaves one outcome. What is answered is what the min-plus definitions give at
+-- whole ticks, and an answered list is in normal form and taken wherever a curve is. Two answered hops are one answered step
+-- through the joined server, either way round, and its delay is at most the two added. A last rate above the server's is 8.
+-- Assumes nothing.
+use mathlib.Core.Path.{_≡_, refl, sym, _∙_, ap}
+use mathlib.Core.Logic.{_⊎_, inl, inr}
+use mathlib.Core.Bool.{Bool, true, false}
+use mathlib.Core.List.{List, [], _∷_, _++_, List·Memᴰ·cases-cons}
+use Prim.Native.Nat.{ℕ, suc, _+_, _-_, _*_, _%_, _≤_, _<_, min}
+use native.Mathlib.Nat.{le-refl, le-trans, le-of-lt, mul-le-mul-right}
+use native.Mathlib.Omega.{arith}
+use lib.ListN.{length, take}
+use lib.Dec.{lit≤}
+use Rattle.meaning.specs.Curve.{Bucket, _∈_, buckets, flat, bucketAt, valueAt, tickValue, Falling, NormalForm, NormalOf, pairs}
+use Rattle.meaning.specs.Server.{Server, served, reads, GreatestGap, Excess, join, Behind, Delay, Residual, last}
+use Rattle.meaning.specs.CurveQuestions.{normalising, lowering, summing, shaping, ValueOutcome}
+use Rattle.meaning.specs.Refusal.{LIST, COUNT, RANGE, FORM, UNBOUNDED, LARGE, ROOM, number, Lines, _when_, _or_, Clear, Verdict, accepted, AllInRange, TooLarge, rawLines, curveLines, over, Answered, Question, allLines, Outcome, part, PartOutcome, FigureOutcome}
+use Rattle.meaning.specs.ServerQuestions.{ServerInRange, serverLines, portLines, passing, BacklogOutcome, DelayOutcome, ServerOutcome, JoinOutcome, ResidualOutcome}
+use Rattle.meaning.specs.Computed.{isNormal}
+use Rattle.meaning.proofs.Order.{le-or-lt}
+use Rattle.meaning.proofs.Value.{Reached, value-reached}
+use Rattle.meaning.proofs.Unique.{normal-of-unique}
+use Rattle.meaning.proofs.Neighbours.{neighbours-sound, neighbours-refute}
+use Rattle.meaning.proofs.Curves.{lower-value, sum-value}
+use Rattle.meaning.proofs.Excess.{gap-unique}
+use Rattle.meaning.proofs.Behind.{behind-greatest}
+use Rattle.meaning.proofs.Joining.{last-inside, smallest-unique, residual-unique, residual-law, same-server, Convolution, join-convolution}
+use Rattle.meaning.proofs.HopByHop.{hop-by-hop, behind-unique, either-order, joined-delay}
+use Rattle.meaning.proofs.Lists.{buckets-use, flat-length, buckets-flat, over-start}
+use Rattle.meaning.proofs.Outcomes.{number-positive, Same, Single, refused-once, refused-or-clear, one-outcome, one-part-outcome, one-figure, UpTo, from-when, up-to-when, up-to-or, line-hit, clear-or, refused-first, refused-then, refusal, refuse, written-out, no-room}
+
+-- ---- One outcome for every input.
+
+-- (D, 0)
+abbrev linkBucket : ℕ → Bucket
+linkBucket d = record { rate = d; burst = 0 }
+
+-- A question that a curve answers leaves one outcome: the code, the count and the full contents of the lent list, or of the
+-- table that it is a part of.
+pub record OneOutcome (ask : Question) : Type 0 where
+  pub in-a-list :
+      {before after after′ : List ℕ} {code count code′ count′ : ℕ}
+      → Outcome ask before after code count → Outcome ask before after′ code′ count′
+      → Same code count code′ count′ after after′
+  pub in-a-part :
+      {at room : ℕ} {before after after′ : List ℕ} {code count code′ count′ : ℕ}
+      → PartOutcome ask at room before after code count → PartOutcome ask at room before after′ code′ count′
+      → Same code count code′ count′ after after′
+
+-- where one curve answers there is one outcome
+one-curve : (ask : Question) → Single (ask .Answer) → OneOutcome ask
+one-curve ask one = record { in-a-list = one-outcome one; in-a-part = one-part-outcome one }
+
+-- No other server: the code and both numbers are fixed.
+one-server :
+    {operands : Lines} {Answer : Server → Type 0} {code code′ : ℕ} {s s′ : Server}
+    → Single Answer → ServerOutcome operands Answer code s → ServerOutcome operands Answer code′ s′ → (code ≡ code′) × (s ≡ s′)
+one-server one (ServerOutcome.refused v e) (ServerOutcome.refused w e′) =
+    let same = refused-once v w in (same .code-same, same-server (same .figure-same) (e ∙ sym e′))
+one-server one (ServerOutcome.refused v e) (ServerOutcome.answered clear e′ x) = absurd (refused-or-clear v clear)
+one-server one (ServerOutcome.answered clear e x) (ServerOutcome.refused w e′) = absurd (refused-or-clear w clear)
+one-server one (ServerOutcome.answered clear e x) (ServerOutcome.answered clear′ e′ x′) = (e ∙ sym e′, one _ _ x x′)
+
+-- one list is the normal form
+pub single-normal : (raw : List Bucket) → Single (NormalOf raw)
+single-normal raw f g x y = normal-of-unique x y
+
+-- normalise, lower, sum and shape leave one outcome each,
+pub one-normalise : (raw : List ℕ) → OneOutcome (normalising raw)
+unfolding normalising
+one-normalise raw = one-curve (normalising raw) (single-normal (buckets raw))
+
+pub one-lower : (f g : List ℕ) → OneOutcome (lowering f g)
+unfolding lowering
+one-lower f g = one-curve (lowering f g) (single-normal (buckets f ++ buckets g))
+
+pub one-sum : (f g : List ℕ) → OneOutcome (summing f g)
+unfolding summing
+one-sum f g = one-curve (summing f g) (single-normal (pairs (buckets f) (buckets g)))
+
+pub one-shape : (f : List ℕ) (d : ℕ) → OneOutcome (shaping f d)
+unfolding shaping
+one-shape f d = one-curve (shaping f d) (single-normal (buckets f ++ linkBucket d ∷ []))
+
+-- value one,
+pub one-value :
+    (f : List ℕ) (t : ℕ) {code figure code′ figure′ : ℕ} → ValueOutcome f t code figure → ValueOutcome f t code′ figure′
+    → (code ≡ code′) × (figure ≡ figure′)
+unfolding ValueOutcome
+one-value f t = one-figure (λ m n e e′. e ∙ sym e′)
+
+-- join one,
+pub one-join :
+    (s next : Server) {code code′ : ℕ} {joined joined′ : Server}
+    → JoinOutcome s next code joined → JoinOutcome s next code′ joined′ → (code ≡ code′) × (joined ≡ joined′)
+unfolding JoinOutcome
+one-join s next = one-server (λ x y e e′. e ∙ sym e′)
+
+module _ (f : List ℕ) (s : Server) where
+  -- one curve stands behind the server
+  pub single-behind : Single (passing f s .Answer)
+  unfolding passing
+  single-behind g h x y = behind-unique x y
+
+  -- behind one,
+  pub one-behind : OneOutcome (passing f s)
+  one-behind = one-curve (passing f s) single-behind
+
+  -- backlog one,
+  pub one-backlog :
+      {code figure code′ figure′ : ℕ} → BacklogOutcome f s code figure → BacklogOutcome f s code′ figure′
+      → (code ≡ code′) × (figure ≡ figure′)
+  unfolding BacklogOutcome
+  one-backlog = one-figure (λ m n x y. gap-unique x y)
+
+  -- delay one,
+  pub one-delay :
+      {code figure code′ figure′ : ℕ} → DelayOutcome f s code figure → DelayOutcome f s code′ figure′
+      → (code ≡ code′) × (figure ≡ figure′)
+  unfolding DelayOutcome
+  one-delay = one-figure (λ m n x y. smallest-unique x y)
+
+  -- and residual one
+  pub one-residual :
+      {code code′ : ℕ} {left left′ : Server} → ResidualOutcome f s code left → ResidualOutcome f s code′ left′
+      → (code ≡ code′) × (left ≡ left′)
+  unfolding ResidualOutcome
+  one-residual = one-server (λ x y. residual-unique)
+
+-- ---- What is read of an answer.
+
+-- The list that a curve answer has written: the first `count` buckets of the lent list.
+abbrev pub listIn : List ℕ → ℕ → List ℕ
+listIn after count = take (2 * count) after
+
+-- A list g that is answered: no line holds of the operands, it is the exact answer and not too large, and it stands in the lent
+-- list, with its count.
+pub record AnsweredList (ask : Question) (before after : List ℕ) (count : ℕ) (g : List ℕ) : Type 0 where
+  pub operands-clear : Clear (ask .operands)
+  pub right : ask .Answer (buckets g)
+  pub fits : TooLarge (buckets g) → ⊥
+  pub count-is : count ≡ length (buckets g)
+  pub numbers : flat (buckets g) ≡ g
+  pub room : length g ≤ length before
+  pub written : after ≡ over g before
+
+-- what is not above is at most
+pub not-above : {a b : ℕ} → (b < a → ⊥) → a ≤ b
+not-above {a} {b} h = split (le-or-lt a b)
+  where
+    split : (a ≤ b) ⊎ (b < a) → a ≤ b
+    split (inl l) = l
+    split (inr l) = absurd (h l)
+
+module _ {ask : Question} {before after : List ℕ} {count : ℕ} where
+  -- the numbers of a curve that is written are read back
+  read-back : (v : Answered (allLines ask (length before)) (ask .Answer) before after 0 count) → listIn after count ≡ flat (v .curve)
+  read-back v =
+      let n : 2 * count ≡ length (flat (v .curve)) = omega (arith, v .count-is, flat-length (v .curve)) in
+      rw (n, v .written) (over-start (flat (v .curve)) before)
+
+  -- what is known of a list that is answered
+  pub answered-list : Outcome ask before after 0 count → AnsweredList ask before after count (listIn after count)
+  answered-list (Outcome.refused v) = absurd (omega (arith, v .code-is, number-positive (v .why)))
+  answered-list (Outcome.answered v) =
+      rw (read-back v)
+      (record {
+        operands-clear = λ r h. v .clear r (inl h);
+        right = rw (buckets-flat (v .curve)) (v .right);
+        fits = rw (buckets-flat (v .curve)) (λ large. v .clear LARGE (inr (inl (refl, (v .curve, v .right, large)))));
+        count-is = rw (buckets-flat (v .curve)) (v .count-is);
+        numbers = rw (buckets-flat (v .curve));
+        room = not-above (λ short. v .clear ROOM (inr (inr (refl, (v .curve, v .right, short)))));
+        written = v .written;
+      })
+
+-- it has two numbers for each bucket
+answered-length :
+    {ask : Question} {before after : List ℕ} {count : ℕ} {g : List ℕ} → AnsweredList ask before after count g
+    → length g ≡ 2 * length (buckets g)
+answered-length {g = g} good = ap length (sym (good .numbers)) ∙ flat-length (buckets g)
+
+-- ---- What is known of operands that no line refuses.
+
+-- a list is in normal form or it is not
+pub decide-normal : (f : List Bucket) → Dec (NormalForm f)
+decide-normal f = split (isNormal f) refl
+  where
+    split : (t : Bool) → isNormal f ≡ t → Dec (NormalForm f)
+    split true e = yes (neighbours-sound f e)
+    split false e = no (neighbours-refute f e)
+
+-- a curve is in normal form
+pub clear-form : (f : List ℕ) → Clear (curveLines f) → NormalForm (buckets f)
+clear-form f clear = split (decide-normal (buckets f))
+  where
+    split : Dec (NormalForm (buckets f)) → NormalForm (buckets f)
+    split (yes n) = n
+    split (no out) = absurd (clear FORM (inr (refl, out)))
+
+-- a server that is not out of range is in range
+pub server-in-range : (s : Server) → ((ServerInRange s → ⊥) → ⊥) → ServerInRange s
+server-in-range s not-out =
+    record {
+      rate-some = not-above (λ h. not-out (λ r. omega (arith, r .rate-some)));
+      rate-fits = not-above (λ h. not-out (λ r. omega (arith, r .rate-fits)));
+      latency-fits = not-above (λ h. not-out (λ r. omega (arith, r .latency-fits)));
+    }
+
+-- Of a curve and a server: the curve is not refused, it is in normal form, and the server is in range.
+module _ (f : List ℕ) (s : Server) {Broken : Type 0} (clear : Clear (curveLines f or serverLines s or UNBOUNDED when Broken)) where
+  pub port-curve : Clear (curveLines f)
+  port-curve r h = clear r (inl (inl h))
+
+  pub port-form : NormalForm (buckets f)
+  port-form = clear-form f port-curve
+
+  pub port-server : ServerInRange s
+  port-server = server-in-range s (λ out. clear RANGE (inl (inr (refl, out))))
+
+-- An answered list in normal form is itself a curve that no line refuses.
+pub accepted-again :
+    {ask : Question} {before after : List ℕ} {count : ℕ} {g : List ℕ}
+    → AnsweredList ask before after count g → NormalForm (buckets g) → Clear (curveLines g)
+accepted-again {g = g} good form = clear-or (clear-or (clear-or list count) range) normal
+  where
+    list : Clear (LIST when ((length g ≡ 0) ⊎ (length g % 2 ≡ 1)))
+    list r (e, inl h) = omega (arith, answered-length good, form .some)
+    list r (e, inr h) = omega (arith, answered-length good, buckets-use g)
+
+    count : Clear (COUNT when (64 < length (buckets g)))
+    count r h = good .fits (inl (h .1))
+
+    range : Clear (RANGE when (AllInRange (buckets g) → ⊥))
+    range r h = good .fits (inr (h .1))
+
+    normal : Clear (FORM when (NormalForm (buckets g) → ⊥))
+    normal r h = h .1 form
+
+-- no bucket's rate is below the last one's
+last-slowest : (f : List Bucket) → Falling f → {k : Bucket} → k ∈ f → last f .rate ≤ k .rate
+unfolding Falling last
+last-slowest (j ∷ []) falling {k} m = only (List·Memᴰ·cases-cons m)
+  where
+    only : (k ≡ j) ⊎ (k ∈ []) → j .rate ≤ k .rate
+    only (inl e) = rw e (le-refl (j .rate))
+    only (inr n) = elim n [ ]
+last-slowest (j ∷ i ∷ f) falling {k} m = split (λ n. last-slowest (i ∷ f) (falling .1) n) (List·Memᴰ·cases-cons m)
+  where
+    split : (k ∈ (i ∷ f) → last (i ∷ f) .rate ≤ k .rate) → (k ≡ j) ⊎ (k ∈ (i ∷ f)) → last (i ∷ f) .rate ≤ k .rate
+    split rest (inl e) = rw e (le-of-lt (falling .0 (last (i ∷ f)) (last-inside (i ∷ f) (omega arith))))
+    split rest (inr n) = rest n
+
+-- A curve that has an excess for a rate ends in a bucket of at most that rate: at a late tick no other is that low.
+pub excess-bounded : {f : List Bucket} {rate m : ℕ} → NormalForm f → Excess f rate m → last f .rate ≤ rate
+unfolding reads bucketAt
+excess-bounded {f} {rate} {m} form e = from (value-reached f (suc m) 1 (form .some))
+  where
+    from : Reached f (suc m) 1 → last f .rate ≤ rate
+    from r =
+        le-trans (last-slowest f (form .falling) (r .inside))
+        (not-above (λ h. omega (arith, r .value-is, e .greatest (suc m), mul-le-mul-right (suc m) h)))
+
+-- ---- Demand 2: what is answered.
+
+-- A list is in normal form, is taken wherever a curve is, and has this value at every non-negative fraction p/q.
+pub record CurveRead (g : List ℕ) (value : ℕ → ℕ → ℕ) : Type 0 where
+  pub normal-form : NormalForm (buckets g)
+  pub accepted : Clear (curveLines g)
+  pub value-is : (p q : ℕ) → 0 < q → valueAt (buckets g) p q ≡ value p q
+
+-- so of a list that is answered
+read-curve :
+    {ask : Question} {before after : List ℕ} {count : ℕ} {g : List ℕ} {value : ℕ → ℕ → ℕ}
+    → AnsweredList ask before after count g → NormalForm (buckets g)
+    → ((p q : ℕ) → 0 < q → valueAt (buckets g) p q ≡ value p q) → CurveRead g value
+read-curve good form same = record { normal-form = form; accepted = accepted-again good form; value-is = same }
+
+-- normalise answers the raw list's value,
+pub answered-normalise :
+    (raw : List ℕ) {before after : List ℕ} {count : ℕ} → Outcome (normalising raw) before after 0 count
+    → CurveRead (listIn after count) (valueAt (buckets raw))
+unfolding normalising
+answered-normalise raw o =
+    let good = answered-list o in
+    read-curve good (good .right .form) (λ p q h. sym (good .right .same p q h))
+
+module _ (f g : List ℕ) where
+  -- both are in normal form
+  pub both-form : Clear (curveLines f or curveLines g) → NormalForm (buckets f) × NormalForm (buckets g)
+  both-form clear = (clear-form f (λ r h. clear r (inl h)), clear-form g (λ r h. clear r (inr h)))
+
+  -- lower the minimum of the two,
+  pub answered-lower :
+      {before after : List ℕ} {count : ℕ} → Outcome (lowering f g) before after 0 count
+      → CurveRead (listIn after count) (λ p q. min (valueAt (buckets f) p q) (valueAt (buckets g) p q))
+  unfolding lowering
+  answered-lower o =
+      let good = answered-list o in
+      let forms = both-form (good .operands-clear) in
+      read-curve good (good .right .form) (lower-value (buckets f) (buckets g) (forms .0 .some) (forms .1 .some) (good .right))
+
+  -- sum the sum of the two,
+  pub answered-sum :
+      {before after : List ℕ} {count : ℕ} → Outcome (summing f g) before after 0 count
+      → CurveRead (listIn after count) (λ p q. valueAt (buckets f) p q + valueAt (buckets g) p q)
+  unfolding summing
+  answered-sum o =
+      let good = answered-list o in
+      let forms = both-form (good .operands-clear) in
+      read-curve good (good .right .form) (sum-value (buckets f) (buckets g) (forms .0 .some) (forms .1 .some) (good .right))
+
+-- the link's bucket (D, 0) has the value D·p/q
+link-value : (d p q : ℕ) → valueAt (linkBucket d ∷ []) p q ≡ d * p
+unfolding valueAt bucketAt
+link-value d p q = omega arith
+
+-- and shape the minimum of the curve and of what the link carries
+pub answered-shape :
+    (f : List ℕ) (d : ℕ) {before after : List ℕ} {count : ℕ} → Outcome (shaping f d) before after 0 count
+    → CurveRead (listIn after count) (λ p q. min (valueAt (buckets f) p q) (d * p))
+unfolding shaping
+answered-shape f d o =
+    let good = answered-list o in
+    let form = clear-form f (λ r l. good .operands-clear r (inl l)) in
+    let lower = lower-value (buckets f) (linkBucket d ∷ []) (form .some) (lit≤ tt) (good .right) in
+    read-curve good (good .right .form) (λ p q h. lower p q h ∙ ap (min (valueAt (buckets f) p q)) (link-value d p q))
+
+-- The curve behind: in normal form, taken wherever a curve is, and at every whole t its value is the greatest over whole u of
+-- value(t+u) minus what is served by u.
+pub record BehindRead (f : List ℕ) (s : Server) (g : List ℕ) : Type 0 where
+  pub definition : Behind (buckets f) s (buckets g)
+  pub normal-form : NormalForm (buckets g)
+  pub accepted : Clear (curveLines g)
+  pub greatest : (t : ℕ) → GreatestGap (λ u. reads (buckets f) (t + u)) (served s) (tickValue (buckets g) t)
+
+-- An answered delay: it suffices at every whole tick, and no smaller number does.
+pub record DelayRead (f : List ℕ) (s : Server) (d : ℕ) : Type 0 where
+  pub suffices : (t : ℕ) → reads (buckets f) t ≤ served s (t + d)
+  pub no-less : (m : ℕ) → m < d → ((t : ℕ) → reads (buckets f) t ≤ served s (t + m)) → ⊥
+
+-- An answered residual: by its rule, and past its latency L it never serves more by tick t than R·(t-T) minus the cross curve's
+-- value at t-L.
+pub record ResidualRead (cross : List ℕ) (s left : Server) : Type 0 where
+  pub definition : Residual (buckets cross) s left
+  pub in-range : ServerInRange left
+  pub never-more :
+      (t : ℕ) → left .latency ≤ t
+      → served left t + reads (buckets cross) (t - left .latency) ≤ s .rate * (t - s .latency)
+
+-- An answered joined server: it serves by each tick the min-plus convolution of what the two serve.
+pub record JoinRead (s next joined : Server) : Type 0 where
+  pub definition : joined ≡ join s next
+  pub in-range : ServerInRange joined
+  pub convolution : (t : ℕ) → Convolution (served s) (served next) t (served joined t)
+
+-- where no line holds a figure is answered, and where it is answered none holds
+figure-clear :
+    {lines : Lines} {Figure : ℕ → Type 0} {code figure : ℕ}
+    → Clear lines → FigureOutcome lines Figure code figure → (code ≡ 0) × Figure figure
+figure-clear none (FigureOutcome.refused v) = absurd (refused-or-clear v none)
+figure-clear none (FigureOutcome.answered clear e x) = (e, x)
+
+figure-answered :
+    {lines : Lines} {Figure : ℕ → Type 0} {figure : ℕ} → FigureOutcome lines Figure 0 figure → Clear lines × Figure figure
+figure-answered (FigureOutcome.refused v) = absurd (omega (arith, v .code-is, number-positive (v .why)))
+figure-answered (FigureOutcome.answered clear e x) = (clear, x)
+
+-- no line holds of the operands of an answered server, and it is in range
+server-answered :
+    {operands : Lines} {Answer : Server → Type 0} {s : Server}
+    → ServerOutcome operands Answer 0 s → Clear operands × Answer s × ServerInRange s
+server-answered (ServerOutcome.refused v e) = absurd (omega (arith, v .code-is, number-positive (v .why)))
+server-answered {s = s} (ServerOutcome.answered clear e x) =
+    (λ r h. clear r (inl h), x, server-in-range s (λ out. clear LARGE (inr (refl, (s, x, out)))))
+
+-- an answered value is the curve's at the tick
+pub answered-value :
+    (f : List ℕ) (t : ℕ) {figure : ℕ} → ValueOutcome f t 0 figure → figure ≡ tickValue (buckets f) t
+unfolding ValueOutcome
+answered-value f t o = figure-answered o .1
+
+-- what is answered to join,
+pub answered-join : (s next : Server) {joined : Server} → JoinOutcome s next 0 joined → JoinRead s next joined
+unfolding JoinOutcome
+answered-join s next o =
+    let known = server-answered o in
+    record { definition = known .1; in-range = known .2; convolution = rw (known .1) (join-convolution s next) }
+
+module _ (f : List ℕ) (s : Server) where
+  read-behind :
+      {before after : List ℕ} {count : ℕ} {g : List ℕ} → AnsweredList (passing f s) before after count g → BehindRead f s g
+  unfolding passing
+  read-behind good =
+      record {
+        definition = good .right;
+        normal-form = good .right .normal .form;
+        accepted = accepted-again good (good .right .normal .form);
+        greatest = behind-greatest (port-form f s (good .operands-clear) .some) (good .right);
+      }
+
+  -- to behind,
+  pub answered-behind :
+      {before after : List ℕ} {count : ℕ} → Outcome (passing f s) before after 0 count → BehindRead f s (listIn after count)
+  answered-behind o = read-behind (answered-list o)
+
+  -- to backlog: the greatest over whole u of value(u) minus what is served by u
+  pub answered-backlog : {n : ℕ} → BacklogOutcome f s 0 n → GreatestGap (reads (buckets f)) (served s) n
+  unfolding BacklogOutcome
+  answered-backlog o = figure-answered o .1
+
+  -- to delay,
+  pub answered-delay : {d : ℕ} → DelayOutcome f s 0 d → DelayRead f s d
+  unfolding DelayOutcome
+  answered-delay o =
+      let known = figure-answered o .1 in
+      record { suffices = known .suffices; no-less = λ m less enough. omega (arith, known .smallest m enough) }
+
+  -- and to residual
+  pub answered-residual : {left : Server} → ResidualOutcome f s 0 left → ResidualRead f s left
+  unfolding ResidualOutcome
+  answered-residual o =
+      let known = server-answered o in
+      let clear = known .0 in
+      record {
+        definition = known .1;
+        in-range = known .2;
+        never-more =
+            residual-law (port-form f s clear .some) (known .1)
+            (not-above (λ h. clear UNBOUNDED (inr (refl, omega arith))));
+      }
+
+-- ---- Demand 3: hop by hop is one step through the joined server.
+
+-- A hop that is answered: the curve f, passed through the server s, and the list g that stands in the lent list afterwards.
+pub record Hop (f : List ℕ) (s : Server) (g : List ℕ) : Type 0 where
+  pub before : List ℕ
+  pub after : List ℕ
+  pub count : ℕ
+  pub answered : Outcome (passing f s) before after 0 count
+  pub list-is : listIn after count ≡ g
+
+-- The same where the output is a part of a table.
+pub hop-in-part :
+    (f : List ℕ) (s : Server) {at room : ℕ} {before after : List ℕ} {count : ℕ}
+    → PartOutcome (passing f s) at room before after 0 count → Hop f s (listIn (part at room after) count)
+hop-in-part f s o = record { before = _; after = _; count = _; answered = o .inside; list-is = refl }
+
+-- A curve and two servers where both hops and the joining of the servers are answered.
+pub record TwoHops (f : List ℕ) (s next joined : Server) (a g : List ℕ) : Type 0 where
+  pub first : Hop f s a
+  pub second : Hop a next g
+  pub joining : JoinOutcome s next 0 joined
+
+-- An outcome is the answer g, of n buckets.
+pub record AnsweredWith (g : List ℕ) (n : ℕ) (before after : List ℕ) (code count : ℕ) : Type 0 where
+  pub code-is-0 : code ≡ 0
+  pub count-is-the-same : count ≡ n
+  pub list-is-the-same : listIn after count ≡ g
+  pub beyond-stays : after ≡ over g before
+
+-- What then holds, n being the second hop's count.
+pub record OneStep (f : List ℕ) (s next joined : Server) (a g : List ℕ) (n : ℕ) : Type 0 where
+  -- The one step through the joined server, given room for its list, is answered too, and its curve is, bucket for bucket, the
+  -- hop-by-hop curve
+  pub one-step-is-answered-too :
+      {before after : List ℕ} {code count : ℕ}
+      → Outcome (passing f joined) before after code count → length g ≤ length before → AnsweredWith g n before after code count
+  -- (there is such an outcome,
+  pub one-step-has-an-outcome :
+      (before : List ℕ) → length g ≤ length before → Outcome (passing f joined) before (over g before) 0 n
+  -- and without room it is refused for that alone),
+  pub one-step-without-room : (before : List ℕ) → length before < length g → Outcome (passing f joined) before before 10 0
+  -- both being the curve of demand 2.
+  pub curve-of-the-one-step : BehindRead f joined g
+  pub curve-of-the-hops : BehindRead a next g
+  -- With the servers the other way round the list is the same, if those hops are answered.
+  pub other-way-round : {b h : List ℕ} → Hop f next b → Hop b s h → h ≡ g
+  -- The delay through the joined server is answered, and never more than the two hops' delays added.
+  pub joined-delay-is-never-more :
+      (code d code′ e code″ n : ℕ) → DelayOutcome f s code d → DelayOutcome a next code′ e → DelayOutcome f joined code″ n
+      → (code″ ≡ 0) × (n ≤ d + e)
+
+-- what is known of a hop
+hop-read : {f : List ℕ} {s : Server} {g : List ℕ} (h : Hop f s g) → AnsweredList (passing f s) (h .before) (h .after) (h .count) g
+hop-read h = rw (h .list-is) at (answered-list (h .answered))
+
+module _ {f : List ℕ} {s next joined : Server} {a g : List ℕ} (hops : TwoHops f s next joined a g) where
+  -- both hops are the curves behind their servers,
+  first-behind : BehindRead f s a
+  first-behind = read-behind f s (hop-read (hops .first))
+
+  last-list : AnsweredList (passing a next) (hops .second .before) (hops .second .after) (hops .second .count) g
+  last-list = hop-read (hops .second)
+
+  second-behind : BehindRead a next g
+  second-behind = read-behind a next last-list
+
+  joined-is : joined ≡ join s next
+  joined-is = answered-join s next (hops .joining) .definition
+
+  curve-clear : Clear (curveLines f)
+  unfolding passing
+  curve-clear = port-curve f s (hop-read (hops .first) .operands-clear)
+
+  curve-form : NormalForm (buckets f)
+  curve-form = clear-form f curve-clear
+
+  -- the second hop's curve stands behind the joined server,
+  joined-behind : Behind (buckets f) joined (buckets g)
+  joined-behind = rw joined-is (hop-by-hop (curve-form .some) (first-behind .definition) (second-behind .definition))
+
+  -- no line holds of the first curve and the joined server,
+  joined-clear : Clear (portLines f joined)
+  joined-clear =
+      clear-or (clear-or curve-clear (λ r h. h .1 (answered-join s next (hops .joining) .in-range)))
+      (λ r h. omega (arith, h .1, excess-bounded curve-form (joined-behind .excess)))
+
+  -- so the one step is answered with that list, given room,
+  step-answered :
+      (before : List ℕ) → length g ≤ length before → Outcome (passing f joined) before (over g before) 0 (hops .second .count)
+  unfolding passing
+  step-answered before room =
+      rw (last-list .count-is)
+      (rw (last-list .numbers) at
+      (written-out (passing f joined) before joined-clear joined-behind (single-behind f joined) (last-list .fits)
+      (rw (last-list .numbers) room)))
+
+  -- refused without,
+  step-short : (before : List ℕ) → length before < length g → Outcome (passing f joined) before before 10 0
+  unfolding passing
+  step-short before short =
+      no-room (passing f joined) before joined-clear joined-behind (single-behind f joined) (last-list .fits)
+      (rw (last-list .numbers) short)
+
+  -- and nothing else comes of it
+  step-same :
+      {before after : List ℕ} {code count : ℕ} → Outcome (passing f joined) before after code count → length g ≤ length before
+      → AnsweredWith g (hops .second .count) before after code count
+  step-same {before} {after} {code} {count} o room =
+      record {
+        code-is-0 = same .code-same;
+        count-is-the-same = same .figure-same;
+        list-is-the-same = rw (numbers, same .after-same) (over-start g before);
+        beyond-stays = same .after-same;
+      }
+    where
+      same : Same code count 0 (hops .second .count) after (over g before)
+      same = one-behind f joined .in-a-list o (step-answered before room)
+
+      numbers : 2 * count ≡ length g
+      numbers = omega (arith, same .figure-same, last-list .count-is, answered-length last-list)
+
+  -- the other way round the list is the same
+  order-same : {b h : List ℕ} → Hop f next b → Hop b s h → h ≡ g
+  order-same {b} {h} x y = sym (hop-read y .numbers) ∙ ap flat (sym curves) ∙ last-list .numbers
+    where
+      curves : buckets g ≡ buckets h
+      curves =
+          either-order (curve-form .some) (first-behind .definition) (second-behind .definition)
+          (read-behind f next (hop-read x) .definition) (read-behind b s (hop-read y) .definition)
+
+  -- the joined server's delay is at most the two hops' together
+  delay-less :
+      (code d code′ e code″ n : ℕ) → DelayOutcome f s code d → DelayOutcome a next code′ e → DelayOutcome f joined code″ n
+      → (code″ ≡ 0) × (n ≤ d + e)
+  unfolding DelayOutcome passing
+  delay-less code d code′ e code″ n x y z =
+      let through = figure-clear joined-clear z in
+      (through .0, bound (through .1))
+    where
+      bound : Delay (buckets f) joined n → n ≤ d + e
+      bound through =
+          joined-delay next (curve-form .some) (first-behind .definition)
+          (figure-clear (hop-read (hops .first) .operands-clear) x .1) (figure-clear (last-list .operands-clear) y .1)
+          (rw joined-is at through)
+
+  -- Demand 3.
+  pub hop-by-hop-is-one-step : OneStep f s next joined a g (hops .second .count)
+  hop-by-hop-is-one-step =
+      record {
+        one-step-is-answered-too = step-same;
+        one-step-has-an-outcome = step-answered;
+        one-step-without-room = step-short;
+        curve-of-the-one-step =
+            record {
+              definition = joined-behind;
+              normal-form = second-behind .normal-form;
+              accepted = second-behind .accepted;
+              greatest = behind-greatest (curve-form .some) joined-behind;
+            };
+        curve-of-the-hops = second-behind;
+        other-way-round = order-same;
+        joined-delay-is-never-more = delay-less;
+      }
+
+-- ---- A last rate above the server's.
+
+-- The lines of operands have numbers up to 8.
+pub raw-up-to : (l : List ℕ) → UpTo 8 (rawLines l)
+unfolding number
+raw-up-to l = up-to-or (up-to-or (up-to-when LIST (lit≤ tt)) (up-to-when COUNT (lit≤ tt))) (up-to-when RANGE (lit≤ tt))
+
+pub curve-up-to : (f : List ℕ) → UpTo 8 (curveLines f)
+unfolding number
+curve-up-to f = up-to-or (raw-up-to f) (up-to-when FORM (lit≤ tt))
+
+pub server-up-to : (s : Server) → UpTo 8 (serverLines s)
+unfolding number
+server-up-to s = up-to-when RANGE (lit≤ tt)
+
+-- A curve and a server, and a bound that the last rate breaks.
+pub port-up-to : (f : List ℕ) (s : Server) {Broken : Type 0} → UpTo 8 (curveLines f or serverLines s or UNBOUNDED when Broken)
+unfolding number
+port-up-to f s = up-to-or (up-to-or (curve-up-to f) (server-up-to s)) (up-to-when UNBOUNDED (lit≤ tt))
+
+-- An operand of a question that a server answers is refused.
+pub server-refused :
+    {operands : Lines} {Answer : Server → Type 0} {code : ℕ}
+    → UpTo 8 operands → 1 ≤ code → Verdict operands code → ServerOutcome operands Answer code (record { rate = 0; latency = 0 })
+unfolding number
+server-refused h some v = ServerOutcome.refused (refusal [] some (refused-first h (from-when LARGE (lit≤ tt)) some v)) refl
+
+-- A curve and a server that no other line refuses: the last rate above R is UNBOUNDED, and nothing else comes of it.
+module _ (f : List ℕ) (s : Server) (curve : Clear (curveLines f)) (server : ServerInRange s) where
+  -- the code is 8
+  port-unbounded : {Broken : Type 0} → Broken → Verdict (curveLines f or serverLines s or UNBOUNDED when Broken) 8
+  unfolding number
+  port-unbounded broken = refused-then (accepted (clear-or curve (λ r h. h .1 server)) refl) (line-hit UNBOUNDED broken)
+
+  module _ (above : s .rate < last (buckets f) .rate) where
+    -- behind: with no count, and the lent list as it was
+    pub unbounded-behind :
+        {before after : List ℕ} {code count : ℕ} → Outcome (passing f s) before after code count
+        → Same code count 8 0 after before
+    unfolding passing
+    unbounded-behind {before} o =
+        one-behind f s .in-a-list o (refuse (passing f s) before (port-up-to f s) (lit≤ tt) (port-unbounded above))
+
+    -- backlog and delay: with no figure
+    pub unbounded-backlog : {code n : ℕ} → BacklogOutcome f s code n → (code ≡ 8) × (n ≡ 0)
+    unfolding BacklogOutcome
+    unbounded-backlog o = one-backlog f s o (FigureOutcome.refused (refusal [] (lit≤ tt) (port-unbounded above)))
+
+    pub unbounded-delay : {code n : ℕ} → DelayOutcome f s code n → (code ≡ 8) × (n ≡ 0)
+    unfolding DelayOutcome
+    unbounded-delay o = one-delay f s o (FigureOutcome.refused (refusal [] (lit≤ tt) (port-unbounded above)))
+
+  -- residual, already where the last rate is R: with no server
+  pub unbounded-residual :
+      {code : ℕ} {left : Server} → s .rate ≤ last (buckets f) .rate → ResidualOutcome f s code left
+      → (code ≡ 8) × (left ≡ record { rate = 0; latency = 0 })
+  unfolding ResidualOutcome
+  unbounded-residual above o = one-residual f s o (server-refused (port-up-to f s) (lit≤ tt) (port-unbounded above))
