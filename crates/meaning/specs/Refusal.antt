@@ -52,13 +52,20 @@ pub data Verdict (lines : Lines) (code : ℕ) : Type 0 where
   accepted : Clear lines → code ≡ 0 → Verdict lines code
   rejected : (r : Refusal) → Wins lines r → code ≡ number r → Verdict lines code
 
+-- A rate and a burst below their ends.
+pub record Within (rate-end burst-end : ℕ) (k : Bucket) : Type 0 where
+  pub rate-fits : k .rate < rate-end
+  pub burst-fits : k .burst < burst-end
+
+abbrev pub AllWithin : ℕ → ℕ → List Bucket → Type 0
+AllWithin rate-end burst-end f = (k : Bucket) → k ∈ f → Within rate-end burst-end k
+
 -- r from 0 to 2^20-1, b from 0 to 2^40-1.
-pub record InRange (k : Bucket) : Type 0 where
-  pub rate-fits : k .rate < 2 ^ 20
-  pub burst-fits : k .burst < 2 ^ 40
+abbrev pub InRange : Bucket → Type 0
+InRange = Within (2 ^ 20) (2 ^ 40)
 
 abbrev pub AllInRange : List Bucket → Type 0
-AllInRange f = (k : Bucket) → k ∈ f → InRange k
+AllInRange = AllWithin (2 ^ 20) (2 ^ 40)
 
 -- A raw list: empty or of odd length; over 64 buckets; a rate or burst outside its range.
 abbrev pub rawLines : List ℕ → Lines

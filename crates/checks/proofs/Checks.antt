@@ -1,0 +1,206 @@
+-- The tests for refusals: the lines of the table put together, in the order of their numbers, and what it says of a list that none holds.
+-- Assumes nothing.
+use mathlib.Core.Path.{_≡_, refl, sym, _∙_, subst}
+use mathlib.Core.Logic.{_⊎_, inl, inr, ⊎-elim}
+use mathlib.Core.Bool.{Bool, true, false, not, false≢true}
+use mathlib.Core.List.{List, _∷_, List·Memᴰ·cases-cons}
+use Prim.Native.Nat.{ℕ, _+_, _%_, _^_, _≤_, _<_, min}
+use native.Mathlib.Nat.{lt-of-not-le, min-eq-left, min-eq-right, le-of-lt}
+use native.Mathlib.Omega.{arith}
+use lib.ListN.{length, getD, drop}
+use lib.Dec.{lit≤}
+use borrow.Author.Tests.{eq-eqb, ne-eqb, not-true, not-false}
+use Rattle.meaning.specs.Curve.{Bucket, _∈_, buckets, NormalForm}
+use Rattle.meaning.specs.Refusal.{LIST, COUNT, RANGE, FORM, number, Lines, _when_, _or_, Clear, Verdict, accepted, rejected, InRange, AllInRange, rawLines, curveLines}
+use Rattle.meaning.specs.Computed.{pick, earlier}
+use Rattle.meaning.proofs.Outcomes.{number-positive, from-when, up-to-when, up-to-or, line-hit, line-miss, refused-first, refused-then}
+use Rattle.checks.specs.Contracts.{Tells}
+use Rattle.checks.proofs.Buckets.{bucket-at, buckets-use, buckets-end, buckets-next, bucket-inside}
+use Rattle.checks.proofs.Ranges.{within-unless}
+use Rattle.checks.proofs.Forms.{in-form}
+
+-- ---- The lines of a raw list, in the order of their numbers.
+
+module _ (l : List ℕ) where
+  -- what LIST or COUNT refuses is refused, whatever the ranges
+  short-refused :
+      {code : ℕ}
+      → 1 ≤ code
+      → Verdict (LIST when ((length l ≡ 0) ⊎ (length l % 2 ≡ 1)) or COUNT when (64 < length (buckets l))) code
+      → Verdict (rawLines l) code
+  unfolding number
+  short-refused some v =
+      refused-first {n = 6} (up-to-or (up-to-when LIST (lit≤ tt)) (up-to-when COUNT (lit≤ tt))) (from-when RANGE (lit≤ tt)) some v
+
+  -- LIST comes first
+  list-refused : (length l ≡ 0) ⊎ (length l % 2 ≡ 1) → Verdict (rawLines l) 4
+  unfolding number
+  list-refused x =
+      short-refused (lit≤ tt)
+      (refused-first {n = 4} (up-to-when LIST (lit≤ tt)) (from-when COUNT (lit≤ tt)) (lit≤ tt) (line-hit LIST x))
+
+  -- the list is empty
+  pub raw-empty : length l ≡ 0 → Verdict (rawLines l) 4
+  raw-empty h = list-refused (inl h)
+
+  -- its length is odd
+  pub raw-odd : length l % 2 ≡ 1 → Verdict (rawLines l) 4
+  raw-odd h = list-refused (inr h)
+
+  module _ (some : length l ≡ 0 → ⊥) (even : length l % 2 ≡ 1 → ⊥) where
+    -- LIST does not hold
+    list-passed : Verdict (LIST when ((length l ≡ 0) ⊎ (length l % 2 ≡ 1))) 0
+    list-passed = line-miss (λ h. ⊎-elim some even h)
+
+    -- there are over 64 buckets
+    pub raw-many : 128 < length l → Verdict (rawLines l) 5
+    unfolding number
+    raw-many h = short-refused (lit≤ tt) (refused-then list-passed (line-hit COUNT (omega (arith, buckets-use l))))
+
+    module _ (few : length l ≤ 128) where
+      -- COUNT does not hold
+      count-passed : Verdict (COUNT when (64 < length (buckets l))) 0
+      count-passed = line-miss (λ h. omega (arith, buckets-use l))
+
+      -- a rate or burst is out of range
+      pub raw-out-of-range : {answer : Bool} → Tells (AllInRange (buckets l)) answer → not answer ≡ true → Verdict (rawLines l) 6
+      unfolding number
+      raw-out-of-range t e =
+          refused-then (refused-then list-passed count-passed) (line-hit RANGE (t .no-means (not-true _ e)))
+
+      -- no line holds
+      pub raw-right : {answer : Bool} → Tells (AllInRange (buckets l)) answer → not answer ≡ false → Verdict (rawLines l) 0
+      raw-right t e =
+          refused-then (refused-then list-passed count-passed) (line-miss (λ out. out (t .yes-means (not-false _ e))))
+
+pub ruleset raw-lines = (raw-empty, raw-odd, raw-many, raw-out-of-range, raw-right)
+
+-- ---- What it says of a list that no line holds.
+
+-- where a test gives 0, none of its lines holds
+pub passed : {lines : Lines} {code : ℕ} → Verdict lines code → code ≡ 0 → Clear lines
+passed (accepted none e) h = none
+passed (rejected r w e) h = absurd (omega (arith, e, number-positive r))
+
+module _ {a b : Lines} (clear : Clear (a or b)) where
+  -- no line of the first
+  pub clear-first : Clear a
+  clear-first r h = clear r (inl h)
+
+  -- no line of the second
+  pub clear-second : Clear b
+  clear-second r h = clear r (inr h)
+
+module _ (l : List ℕ) (clear : Clear (rawLines l)) where
+  -- every rate and burst is in its range
+  pub raw-ranges : AllInRange (buckets l)
+  raw-ranges = within-unless (λ out. clear RANGE (inr (refl, out)))
+
+  -- the length is even
+  pub raw-even : length l % 2 ≡ 0
+  raw-even = let odd : length l % 2 ≡ 1 → ⊥ = λ h. clear LIST (inl (inl (refl, inr h))) in omega (arith, odd)
+
+  -- there is a bucket
+  pub raw-some : 2 ≤ length l
+  raw-some = let empty : length l ≡ 0 → ⊥ = λ h. clear LIST (inl (inl (refl, inl h))) in omega (arith, empty, raw-even)
+
+  -- there are at most 64
+  pub raw-few : length l ≤ 128
+  raw-few =
+      let few : length l < 129 = lt-of-not-le (λ many. clear COUNT (inl (inr (refl, omega (arith, buckets-use l, raw-even))))) in
+      omega arith
+
+-- a curve that is not refused is in normal form
+pub curve-form : (l : List ℕ) → Clear (curveLines l) → NormalForm (buckets l)
+curve-form l clear = in-form (buckets l) (λ out. clear FORM (inr (refl, out)))
+
+-- ---- The lines of a curve: those of a raw list, then FORM.
+
+module _ (l : List ℕ) {code : ℕ} (v : Verdict (rawLines l) code) where
+  -- it is refused as a raw list
+  pub curve-refused : (code ≡ 0 → ⊥) → Verdict (curveLines l) code
+  unfolding number
+  curve-refused some =
+      refused-first {n = 6}
+      (up-to-or (up-to-or (up-to-when LIST (lit≤ tt)) (up-to-when COUNT (lit≤ tt))) (up-to-when RANGE (lit≤ tt)))
+      (from-when FORM (lit≤ tt))
+      (omega (arith, some))
+      v
+
+  module _ (zero-code : code ≡ 0) where
+    -- its rates and bursts are in range
+    pub curve-ranges : AllInRange (buckets l)
+    curve-ranges = raw-ranges l (passed v zero-code)
+
+    -- no line of a raw list holds
+    raw-passed : Verdict (rawLines l) 0
+    raw-passed = subst (Verdict (rawLines l)) zero-code v
+
+    -- it is not in normal form
+    pub curve-out-of-form : {answer : Bool} → Tells (NormalForm (buckets l)) answer → not answer ≡ true → Verdict (curveLines l) 7
+    unfolding number
+    curve-out-of-form t e = refused-then raw-passed (line-hit FORM (t .no-means (not-true _ e)))
+
+    -- no line holds
+    pub curve-right : {answer : Bool} → Tells (NormalForm (buckets l)) answer → not answer ≡ false → Verdict (curveLines l) 0
+    curve-right t e = refused-then raw-passed (line-miss (λ out. out (t .yes-means (not-false _ e))))
+
+pub ruleset curve-lines = (curve-refused, curve-ranges, curve-out-of-form, curve-right)
+
+-- ---- A tick, and a link's rate.
+
+-- a tick of 2^40 or more
+pub tick-refused : {t : ℕ} → 1099511627776 ≤ t → Verdict (RANGE when (2 ^ 40 ≤ t)) 6
+unfolding number
+tick-refused h = line-hit RANGE h
+
+-- a tick below it
+pub tick-right : {t : ℕ} → t < 1099511627776 → Verdict (RANGE when (2 ^ 40 ≤ t)) 0
+tick-right h = line-miss (λ over. omega arith)
+
+module _ {rate : ℕ} where
+  -- a link of rate 0
+  pub link-still : rate ≡ 0 → Verdict (RANGE when ((rate ≡ 0) ⊎ (2 ^ 20 ≤ rate))) 6
+  unfolding number
+  link-still h = line-hit RANGE (inl h)
+
+  -- a link of rate 2^20 or more
+  pub link-fast : 1048576 ≤ rate → Verdict (RANGE when ((rate ≡ 0) ⊎ (2 ^ 20 ≤ rate))) 6
+  unfolding number
+  link-fast h = line-hit RANGE (inr h)
+
+  -- a link between
+  pub link-right : (rate ≡ 0 → ⊥) → rate < 1048576 → Verdict (RANGE when ((rate ≡ 0) ⊎ (2 ^ 20 ≤ rate))) 0
+  link-right some h = line-miss (λ x. ⊎-elim some (λ over. omega arith) x)
+
+pub ruleset number-lines = (tick-refused, tick-right, link-still, link-fast, link-right)
+
+-- ---- The smaller of two codes.
+
+module _ {a b : ℕ} where
+  -- the first is none
+  pub earlier-second : a ≡ 0 → b ≡ earlier a b
+  unfolding earlier pick
+  earlier-second h = rw (eq-eqb a 0 h)
+
+  module _ (some : a ≡ 0 → ⊥) where
+    -- the second is none
+    pub earlier-first : b ≡ 0 → a ≡ earlier a b
+    unfolding earlier pick
+    earlier-first h = rw (ne-eqb a 0 some, eq-eqb b 0 h)
+
+    module _ (other : b ≡ 0 → ⊥) where
+      -- both are codes
+      both : earlier a b ≡ min a b
+      unfolding earlier pick
+      both = rw (ne-eqb a 0 some, ne-eqb b 0 other)
+
+      -- the first is no larger
+      pub earlier-left : a ≤ b → a ≡ earlier a b
+      earlier-left h = sym (both ∙ min-eq-left h)
+
+      -- the second is smaller
+      pub earlier-right : b < a → b ≡ earlier a b
+      earlier-right h = sym (both ∙ min-eq-right (le-of-lt h))
+
+pub ruleset smaller-code = (earlier-second, earlier-first, earlier-left, earlier-right)

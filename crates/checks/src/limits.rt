@@ -1,0 +1,27 @@
+// The numbers of the refusal table that are given here, and the ends of ranges.
+pub const LIST: u64 = 4;
+
+pub const COUNT: u64 = 5;
+
+pub const RANGE: u64 = 6;
+
+pub const FORM: u64 = 7;
+
+pub const LARGE: u64 = 9;
+
+pub const ROOM: u64 = 10;
+
+// A curve has at most 64 buckets, of rates below 2^20 and bursts below 2^40.
+pub const BUCKETS: usize = 64;
+
+pub const RATE_END: u64 = 1_048_576;
+
+pub const BURST_END: u64 = 1_099_511_627_776;
+
+// Raw buckets, before normal form is taken, are within twice that.
+pub const RAW_RATE_END: u64 = 2_097_152;
+
+pub const RAW_BURST_END: u64 = 2_199_023_255_552;
+
+// Ticks are below 2^40.
+pub const TICK_END: u64 = 1_099_511_627_776;

@@ -1,0 +1,16 @@
+-- `settle::beside_equal` gives the ends that a bucket of the same rate leaves.
+-- Assumes nothing.
+use native.Mathlib.Omega.{arith}
+use borrow.Author.Needs.{needs}
+use Rattle.curves.proofs.Narrowing.{product-fits, narrowing}
+use Rattle.curves.proofs.settle.beside_equal.Statement.{statement}
+use Rattle.curves.proofs.settle.beside_equal.Tie as tie
+
+returns : tie.Need-returns
+returns c = search (narrowing, needs)
+
+returns-2 : tie.Need-returns-2
+returns-2 c = search (narrowing, needs)
+
+pub beside-equal-spec : {M : Type 1} → statement M
+beside-equal-spec = tie.close (tie.spec returns returns-2)

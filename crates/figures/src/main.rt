@@ -1,0 +1,71 @@
+// Runs the figures of the scope that are not proved of the definitions, and prints a line for each: what is asked, the code,
+// the count of buckets, and the answered buckets. The file stdout beside src/ has what the scope says.
+use curves::operations::normalise;
+use curves::operations::shape;
+use curves::settle::Answer;
+use libc::STDOUT_FILENO;
+ghost use mathlib.Core.Path.{_≡_};
+ghost use lib.ListN.{length};
+
+// A line: the words, the code, the count, and that many buckets of the list.
+fn show(words: &[u8], answer: Answer, list: &[u64]) {
+    io::write_all(STDOUT_FILENO, words);
+    show_number(answer.code);
+    show_number(answer.count);
+    show_buckets(answer.count, list);
+    io::write_all(STDOUT_FILENO, b"\n");
+}
+
+fn show_number(n: u64) {
+    io::write_all(STDOUT_FILENO, b" ");
+    io::print_decimal(STDOUT_FILENO, n);
+}
+
+// Short answers are shown in full; of a long one the count says enough.
+fn show_buckets(count: u64, list: &[u64]) {
+    if 4 < count {
+        return;
+    }
+    let mut left = 2 * count;
+    let mut i = 0;
+    while i < list.len() {
+        if left == 0 {
+            return;
+        }
+        show_number(list[i]);
+        left -= 1;
+        i += 1;
+    }
+}
+
+// Buckets (200 - i, i * i): rates fall and crossings rise, so each is useful.
+fn spread() -> [u64; 130]
+    ensures { λ r. ⌜ length r ≡ 130 ⌝ }
+{
+    let mut list = [0u64; 130];
+    let mut i = 0;
+    while i < 65 {
+        list[2 * i] = 200 - i as u64;
+        list[2 * i + 1] = (i * i) as u64;
+        i += 1;
+    }
+    list
+}
+
+fn main() {
+    let mut out = [0u64; 130];
+
+    let shaped = shape(&[3, 20], 10, &mut out);
+    show(b"shape {(3,20)} by 10:", shaped, &out);
+
+    let raw = spread();
+    let full = normalise(&raw[..128], &mut out);
+    show(b"normalise 64 raw buckets:", full, &out);
+    let over = normalise(&raw, &mut out);
+    show(b"normalise 65 raw buckets:", over, &out);
+
+    let taken = normalise(&[0, 1_099_511_627_775], &mut out);
+    show(b"normalise burst 2^40-1:", taken, &out);
+    let refused = normalise(&[0, 1_099_511_627_776], &mut out);
+    show(b"normalise burst 2^40:", refused, &out);
+}
