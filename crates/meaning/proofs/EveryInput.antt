@@ -1,29 +1,31 @@
 -- Every input has an outcome: each line of the table can be decided of its operands, and where none holds there is an exact
 -- answer, whose size can be compared. So no contract is empty; that it leaves no second outcome stands in Demands.
 -- Assumes nothing.
-use mathlib.Core.Path.{_≡_, refl, subst, sym, _∙_}
-use mathlib.Core.Logic.{_⊎_, inl, inr}
-use mathlib.Core.List.{List, [], _∷_, List·Memᴰ·head, List·Memᴰ·tail, List·Memᴰ·cases-cons}
+use mathlib.Core.Path.{refl, subst, sym, _∙_}
+use mathlib.Core.Logic.{_⊎_, inl, inr, ⊎-elim, Dec·not}
+use mathlib.Core.List.{List, [], _∷_}
 use Prim.Native.Nat.{ℕ, suc, _%_, _^_, _≤_, _<_}
 use native.Mathlib.Nat.{mul-le-mul}
 use native.Mathlib.Decide.{decLe, ℕ-discrete}
 use native.Mathlib.Omega.{arith}
 use lib.ListN.{length, length-append}
 use lib.Dec.{lit≤}
-use Rattle.meaning.specs.Curve.{Bucket, _∈_, buckets, flat, tickValue, NormalOf}
+use Rattle.meaning.specs.Curve.{Bucket, buckets, flat, tickValue, NormalOf}
 use Rattle.meaning.specs.Server.{Server, join, last}
 use Rattle.meaning.specs.CurveQuestions.{normalising, lowering, summing, shaping, ValueOutcome}
-use Rattle.meaning.specs.Refusal.{Refusal, LIST, COUNT, RANGE, FORM, UNBOUNDED, LARGE, number, Lines, _when_, _or_, Clear, Verdict, accepted, rejected, InRange, AllInRange, TooLarge, rawLines, curveLines, Question, Outcome, FigureOutcome}
+use Rattle.meaning.specs.Refusal.{Refusal, LIST, COUNT, RANGE, FORM, UNBOUNDED, LARGE, number, Lines, _when_, _or_, Clear, Verdict, accepted, rejected, TooLarge, rawLines, curveLines, Question, Outcome, FigureOutcome}
 use Rattle.meaning.specs.ServerQuestions.{ServerInRange, serverLines, portLines, passing, BacklogOutcome, DelayOutcome, ServerOutcome, JoinOutcome, ResidualOutcome}
 use Rattle.meaning.specs.Computed.{earlier, normal, behind, backlog, delay, residual}
-use Rattle.meaning.proofs.Order.{le-or-lt}
+use Rattle.meaning.proofs.Order.{le-or-lt, not-above}
+use Rattle.meaning.proofs.Unique.{normal-of-unique}
+use Rattle.meaning.proofs.Stable.{decide-all-in-range, decide-server, decide-normal}
 use Rattle.meaning.proofs.Normal.{normal-is}
 use Rattle.meaning.proofs.Curves.{pairs-length}
 use Rattle.meaning.proofs.Behind.{behind-is, backlog-is}
 use Rattle.meaning.proofs.Delay.{delay-is}
 use Rattle.meaning.proofs.Joining.{residual-is, residual-unique}
-use Rattle.meaning.proofs.Lists.{buckets-use}
-use Rattle.meaning.proofs.Demands.{not-above, decide-normal, both-form, port-form, port-server, single-normal, single-behind, raw-up-to, curve-up-to, server-up-to, port-up-to, server-refused}
+use Rattle.meaning.proofs.Answers.{raw-some, both-form, raw-up-to, curve-up-to}
+use Rattle.meaning.proofs.Demands.{port-form, port-server, port-bounded, single-behind, server-up-to, port-up-to, server-refused}
 use Rattle.meaning.proofs.Outcomes.{number-positive, Single, UpTo, up-to-or, up-to-when, line-hit, line-miss, clear-or, refused-then, verdict-or, refusal, refuse, too-large, no-room, written-out}
 
 -- ---- What can be decided.
@@ -40,53 +42,15 @@ decide-line r (no x) = (0, line-miss x)
 decide-or : {a b : Lines} → Decided a → Decided b → Decided (a or b)
 decide-or (x, v) (y, w) = (earlier x y, verdict-or v w)
 
--- that something is not so, and either of two
-decide-not : {P : Type 0} → Dec P → Dec (P → ⊥)
-decide-not (yes x) = no (λ h. h x)
-decide-not (no x) = yes x
-
-neither : {P Q : Type 0} → (P → ⊥) → (Q → ⊥) → P ⊎ Q → ⊥
-neither x y (inl h) = x h
-neither x y (inr h) = y h
-
+-- either of two
 decide-either : {P Q : Type 0} → Dec P → Dec Q → Dec (P ⊎ Q)
 decide-either (yes x) q = yes (inl x)
 decide-either (no x) (yes y) = yes (inr y)
-decide-either (no x) (no y) = no (neither x y)
+decide-either (no x) (no y) = no (⊎-elim x y)
 
--- a bucket, a list and a server in range, an answer too large
-decide-in-range : (k : Bucket) → Dec (InRange k)
-decide-in-range k = both (decLe (suc (k .rate)) (2 ^ 20)) (decLe (suc (k .burst)) (2 ^ 40))
-  where
-    both : Dec (k .rate < 2 ^ 20) → Dec (k .burst < 2 ^ 40) → Dec (InRange k)
-    both (yes r) (yes b) = yes (record { rate-fits = r; burst-fits = b })
-    both (yes r) (no b) = no (λ h. b (h .burst-fits))
-    both (no r) b = no (λ h. r (h .rate-fits))
-
-decide-all-in-range : (f : List Bucket) → Dec (AllInRange f)
-decide-all-in-range [] = yes (λ k m. elim m [ ])
-decide-all-in-range (j ∷ f) = both (decide-in-range j) (decide-all-in-range f)
-  where
-    each : InRange j → AllInRange f → (k : Bucket) → (k ≡ j) ⊎ (k ∈ f) → InRange k
-    each first rest k (inl e) = rw e first
-    each first rest k (inr m) = rest k m
-
-    both : Dec (InRange j) → Dec (AllInRange f) → Dec (AllInRange (j ∷ f))
-    both (yes first) (yes rest) = yes (λ k m. each first rest k (List·Memᴰ·cases-cons m))
-    both (yes first) (no rest) = no (λ all. rest (λ k m. all k (List·Memᴰ·tail m)))
-    both (no first) rest = no (λ all. first (all j (List·Memᴰ·head refl)))
-
-decide-server : (s : Server) → Dec (ServerInRange s)
-decide-server s = all (decLe 1 (s .rate)) (decLe (suc (s .rate)) (2 ^ 20)) (decLe (suc (s .latency)) (2 ^ 20))
-  where
-    all : Dec (1 ≤ s .rate) → Dec (s .rate < 2 ^ 20) → Dec (s .latency < 2 ^ 20) → Dec (ServerInRange s)
-    all (yes some) (yes r) (yes l) = yes (record { rate-some = some; rate-fits = r; latency-fits = l })
-    all (yes some) (yes r) (no l) = no (λ h. l (h .latency-fits))
-    all (yes some) (no r) l = no (λ h. r (h .rate-fits))
-    all (no some) r l = no (λ h. some (h .rate-some))
-
+-- an answer too large
 decide-too-large : (f : List Bucket) → Dec (TooLarge f)
-decide-too-large f = decide-either (decLe 65 (length f)) (decide-not (decide-all-in-range f))
+decide-too-large f = decide-either (decLe 65 (length f)) (Dec·not (decide-all-in-range f))
 
 -- ---- The lines of operands.
 
@@ -95,13 +59,13 @@ raw-decided : (l : List ℕ) → Decided (rawLines l)
 raw-decided l =
     decide-or (decide-or (decide-line LIST (decide-either (ℕ-discrete (length l) 0) (ℕ-discrete (length l % 2) 1)))
     (decide-line COUNT (decLe 65 (length (buckets l)))))
-    (decide-line RANGE (decide-not (decide-all-in-range (buckets l))))
+    (decide-line RANGE (Dec·not (decide-all-in-range (buckets l))))
 
 curve-decided : (f : List ℕ) → Decided (curveLines f)
-curve-decided f = decide-or (raw-decided f) (decide-line FORM (decide-not (decide-normal (buckets f))))
+curve-decided f = decide-or (raw-decided f) (decide-line FORM (Dec·not (decide-normal (buckets f))))
 
 server-decided : (s : Server) → Decided (serverLines s)
-server-decided s = decide-line RANGE (decide-not (decide-server s))
+server-decided s = decide-line RANGE (Dec·not (decide-server s))
 
 port-decided :
     (f : List ℕ) (s : Server) {Broken : Type 0} → Dec Broken
@@ -140,17 +104,17 @@ curve-outcome :
     → (Clear (ask .operands) → (f : List Bucket) × ask .Answer f) → HasOutcome ask before
 curve-outcome ask before (code, rejected r w e) upto one exact =
     so-curve (refuse ask before upto (omega (arith, e, number-positive r)) (rejected r w e))
-curve-outcome ask before (code, accepted clear e) upto one exact = found (exact clear)
-  where
-    placed :
-        (f : List Bucket) → ask .Answer f → Dec (TooLarge f)
-        → (length (flat f) ≤ length before) ⊎ (length before < length (flat f)) → HasOutcome ask before
-    placed f right (yes large) room = so-curve (too-large ask before clear right large)
-    placed f right (no fits) (inl room) = so-curve (written-out ask before clear right one fits room)
-    placed f right (no fits) (inr short) = so-curve (no-room ask before clear right one fits short)
-
-    found : (f : List Bucket) × ask .Answer f → HasOutcome ask before
-    found (f, right) = placed f right (decide-too-large f) (le-or-lt (length (flat f)) (length before))
+curve-outcome ask before (code, accepted clear e) upto one exact =
+    let f = exact clear .0 in
+    let right = exact clear .1 in
+    elim (decide-too-large f) [
+      | yes large ↦ so-curve (too-large ask before clear right large)
+      | no fits ↦
+          elim (le-or-lt (length (flat f)) (length before)) [
+            | inl room ↦ so-curve (written-out ask before clear right one fits room)
+            | inr short ↦ so-curve (no-room ask before clear right one fits short)
+          ]
+    ]
 
 -- The same of a figure,
 figure-outcome :
@@ -177,38 +141,29 @@ server-outcome (code, rejected r w e) upto one exact =
       server = record { rate = 0; latency = 0 };
       outcome = server-refused upto (omega (arith, e, number-positive r)) (rejected r w e);
     }
-server-outcome {operands} {Answer} (code, accepted clear e) upto one exact = found (exact clear)
-  where
-    placed : (s : Server) → Answer s → Dec (ServerInRange s) → HasServer (ServerOutcome operands Answer)
-    placed s right (yes fits) =
-        record {
-          code = 0;
-          server = s;
-          outcome =
-              ServerOutcome.answered
-              (clear-or clear (λ r h. h .1 .2 (subst ServerInRange (one s (h .1 .0) right (h .1 .1)) fits))) refl right;
-        }
-    placed s right (no out) =
-        record {
-          code = 9;
-          server = record { rate = 0; latency = 0 };
-          outcome =
-              ServerOutcome.refused
-              (refusal [] (lit≤ tt) (refused-then (accepted clear refl) (line-hit LARGE (s, right, out)))) refl;
-        }
-
-    found : (s : Server) × Answer s → HasServer (ServerOutcome operands Answer)
-    found (s, right) = placed s right (decide-server s)
+server-outcome (code, accepted clear e) upto one exact =
+    let s = exact clear .0 in
+    let right = exact clear .1 in
+    elim (decide-server s) [
+      | yes fits ↦
+          record {
+            code = 0;
+            server = s;
+            outcome =
+                ServerOutcome.answered
+                (clear-or clear (λ r h. h .1 .2 (subst ServerInRange (one s (h .1 .0) right (h .1 .1)) fits))) refl right;
+          }
+      | no out ↦
+          record {
+            code = 9;
+            server = record { rate = 0; latency = 0 };
+            outcome =
+                ServerOutcome.refused
+                (refusal [] (lit≤ tt) (refused-then (accepted clear refl) (line-hit LARGE (s, right, out)))) refl;
+          }
+    ]
 
 -- ---- The operations over curves.
-
--- a raw list that no line refuses has a bucket
-raw-some : (l : List ℕ) → Clear (rawLines l) → 1 ≤ length (buckets l)
-raw-some l clear = not-above (λ h. clear LIST (inl (inl (refl, empty-or-odd h (ℕ-discrete (length l) 0)))))
-  where
-    empty-or-odd : length (buckets l) < 1 → Dec (length l ≡ 0) → (length l ≡ 0) ⊎ (length l % 2 ≡ 1)
-    empty-or-odd h (yes e) = inl e
-    empty-or-odd h (no e) = inr (omega (arith, buckets-use l))
 
 -- A question that the normal form of some raw buckets answers has an outcome.
 normal-outcome :
@@ -216,7 +171,7 @@ normal-outcome :
     → Decided operands → UpTo 8 operands → (Clear operands → 1 ≤ length raw)
     → HasOutcome (record { operands = operands; Answer = NormalOf raw }) before
 normal-outcome {raw = raw} before decided upto filled =
-    curve-outcome _ before decided upto (single-normal raw) (λ clear. (normal raw, normal-is raw (filled clear)))
+    curve-outcome _ before decided upto (λ f g. normal-of-unique) (λ clear. (normal raw, normal-is raw (filled clear)))
 
 -- normalise, lower, sum, shape and value
 pub normalise-has-outcome : (raw before : List ℕ) → HasOutcome (normalising raw) before
@@ -262,7 +217,7 @@ module _ (f : List ℕ) (s : Server) where
   bounded = decLe (suc (s .rate)) (last (buckets f) .rate)
 
   last-bounded : Clear (portLines f s) → last (buckets f) .rate ≤ s .rate
-  last-bounded clear = not-above (λ h. clear UNBOUNDED (inr (refl, h)))
+  last-bounded clear = not-above (port-bounded f s clear)
 
   -- behind, backlog, delay, residual and join
   pub behind-has-outcome : (before : List ℕ) → HasOutcome (passing f s) before

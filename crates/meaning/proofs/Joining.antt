@@ -3,7 +3,7 @@
 -- rounded up is the smallest number that suffices; and what the server left beside a cross curve serves, with that curve, the server had.
 -- Assumes nothing.
 use mathlib.Core.Path.{_≡_, refl, sym, _∙_, ap}
-use mathlib.Core.Logic.{_⊎_, inl, inr}
+use mathlib.Core.Logic.{inl, inr}
 use mathlib.Core.List.{List, [], _∷_, List·Memᴰ·head, List·Memᴰ·tail}
 use Prim.Native.Nat.{ℕ, _+_, _-_, _*_, _≤_, _<_, min}
 use native.Mathlib.Nat.{le-antisymm, le-of-lt, min-comm, min-eq-left, min-eq-right, min-le-left, min-le-right, add-comm, mul-le-mul-left, mul-le-mul-right, lt-div-mul-add, div-lt-iff-lt-mul}
@@ -27,7 +27,7 @@ served-past s {u} y e = ap (λ x. s .rate * x) past
     past : u - s .latency ≡ y
     past = omega arith
 
--- n is the least of a(y) + b(t-y) over the whole y up to t
+-- n is the least of a(y) + b(t-y) over the whole y up to t.
 pub record Convolution (a b : Instant → ℕ) (t n : ℕ) : Type 0 where
   pub at : Instant
   pub inside : at ≤ t
@@ -46,7 +46,23 @@ serves-alone r' e e' none = rw (e, e', none) (omega arith)
 -- the joined server serves by each tick the min-plus convolution of what the two serve
 pub join-convolution : (s next : Server) (t : ℕ) → Convolution (served s) (served next) t (served (join s next) t)
 unfolding served join
-join-convolution s next t = split (le-or-lt (s .rate) (next .rate))
+join-convolution s next t =
+    elim (le-or-lt (s .rate) (next .rate)) [
+      | inl h ↦
+          record {
+            at = t - next .latency;
+            inside = omega arith;
+            reached = serves-alone (next .rate) (min-eq-left h) (omega arith) (omega arith);
+            least = every;
+          }
+      | inr h ↦
+          record {
+            at = min (s .latency) t;
+            inside = omega arith;
+            reached = serves-alone (s .rate) (min-eq-right (le-of-lt h)) (omega arith) (omega arith) ∙ add-comm _ _;
+            least = every;
+          }
+    ]
   where
     every :
         (y : ℕ) → y ≤ t
@@ -54,23 +70,6 @@ join-convolution s next t = split (le-or-lt (s .rate) (next .rate))
         ≤ s .rate * (y - s .latency) + next .rate * (t - y - next .latency)
     every y h =
         slower-serves-less (y - s .latency) (t - y - next .latency) (min-le-left _ _) (min-le-right _ _) (omega arith)
-
-    split :
-        (s .rate ≤ next .rate) ⊎ (next .rate < s .rate) → Convolution (served s) (served next) t (served (join s next) t)
-    split (inl h) =
-        record {
-          at = t - next .latency;
-          inside = omega arith;
-          reached = serves-alone (next .rate) (min-eq-left h) (omega arith) (omega arith);
-          least = every;
-        }
-    split (inr h) =
-        record {
-          at = min (s .latency) t;
-          inside = omega arith;
-          reached = serves-alone (s .rate) (min-eq-right (le-of-lt h)) (omega arith) (omega arith) ∙ add-comm _ _;
-          least = every;
-        }
 
 -- joining in the other order gives the same server
 pub join-order : (s next : Server) → join s next ≡ join next s
