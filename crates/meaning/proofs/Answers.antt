@@ -357,19 +357,19 @@ curve-clear l t form = clear-or (raw-clear l t) (λ r h. h .1 (neighbours-sound 
 pub record OnlyAnswer (ask : Question) (numbers : List ℕ) (count : ℕ) : Type 0 where
   pub with-room :
       {before after : List ℕ} {code count′ : ℕ} → length numbers ≤ length before → Outcome ask before after code count′
-      → (code ≡ 0) × (count′ ≡ count) × (after ≡ over numbers before)
+      → Same code count′ 0 count after (over numbers before)
   pub without-room :
       {before after : List ℕ} {code count′ : ℕ} → length before < length numbers → Outcome ask before after code count′
-      → (code ≡ 10) × (count′ ≡ 0) × (after ≡ before)
+      → Same code count′ 10 0 after before
 
 -- what is answered is these numbers, whatever the room
 pub only-answered :
     {ask : Question} {numbers : List ℕ} {count : ℕ} {before after : List ℕ} {count′ : ℕ} → OnlyAnswer ask numbers count
-    → Outcome ask before after 0 count′ → (count′ ≡ count) × (after ≡ over numbers before)
+    → Outcome ask before after 0 count′ → Same 0 count′ 0 count after (over numbers before)
 only-answered {numbers = numbers} {before = before} known o =
     elim (le-or-lt (length numbers) (length before)) [
-      | inl room ↦ let r = known .with-room room o in (r .1, r .2)
-      | inr short ↦ absurd (omega (arith, known .without-room short o .0))
+      | inl room ↦ known .with-room room o
+      | inr short ↦ absurd (omega (arith, known .without-room short o .code-same))
     ]
 
 -- where no operand is refused and the answer is not too large, it is the only one
@@ -383,22 +383,11 @@ module _
 
     only-answer : OnlyAnswer ask (flat f) (length f)
     only-answer =
+        let one = single-normal asks in
         record {
-          with-room =
-              λ {before} room o.
-              plain (one .of-list o (written-out ask before clear right (single-normal asks) small room));
-          without-room =
-              λ {before} short o.
-              plain (one .of-list o (no-room ask before clear right (single-normal asks) small short));
+          with-room = λ {before} room o. one-outcome one o (written-out ask before clear right one small room);
+          without-room = λ {before} short o. one-outcome one o (no-room ask before clear right one small short);
         }
-      where
-        one : OneOutcome ask
-        one = one-curve ask (single-normal asks)
-
-        plain :
-            {code count code′ count′ : ℕ} {after after′ : List ℕ} → Same code count code′ count′ after after′
-            → (code ≡ code′) × (count ≡ count′) × (after ≡ after′)
-        plain s = (s .code-same, s .figure-same, s .after-same)
 
 -- normalise answers a list that is taken
 only-normalise :

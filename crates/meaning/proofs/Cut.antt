@@ -65,12 +65,17 @@ slower-from s (j ∷ f) {k} m = wanted-or-not (leb (j .rate) (s .rate)) refl (λ
         ]
     wanted-or-not false t rest n = rest n
 
--- (R, B), B = R·T + M, and the raw list of behind.
+-- (R, B), B = R·T + M.
 abbrev pub lineBucket : Server → ℕ → Bucket
 lineBucket s m = record { rate = s .rate; burst = s .rate * s .latency + m }
 
+-- The raw list of behind.
 abbrev pub cutList : List Bucket → Server → ℕ → List Bucket
 cutList f s m = slower s f ++ lineBucket s m ∷ []
+
+-- it has a bucket, (R, B) at least
+pub cut-filled : (f : List Bucket) (s : Server) (m : ℕ) → 1 ≤ length (cutList f s m)
+cut-filled f s m = some (Memᴰ·append-right (slower s f) (List·Memᴰ·head refl))
 
 -- (R, B) has, a latency before, the line's value
 line-at : (s : Server) (m p q : ℕ) → bucketAt (lineBucket s m) p q ≡ s .rate * (p + s .latency * q) + m * q
@@ -109,7 +114,7 @@ module _ (rate m p q : ℕ) where
   unfolding cutAt bucketAt later
   cut-reached f =
       let s = atOnce rate in
-      let r = value-reached (cutList f s m) p q (some (Memᴰ·append-right (slower s f) (List·Memᴰ·head refl))) in
+      let r = value-reached (cutList f s m) p q (cut-filled f s m) in
       elim (List·Memᴰ·append-cases (slower s f) (r .inside)) [
         | inl i ↦
             let k = slower-from s f i in
@@ -119,7 +124,13 @@ module _ (rate m p q : ℕ) where
 
 -- the raw list's value is the cut's, a latency later
 pub cut-list : (f : List Bucket) (s : Server) (m p q : ℕ) → valueAt (cutList f s m) p q ≡ cutAt f (s .rate) m (p + s .latency * q) q
-cut-list f s m p q = reached (cut-reached (s .rate) m (p + s .latency * q) q f)
+cut-list f s m p q =
+    elim (cut-reached (s .rate) m (p + s .latency * q) q f) [
+      | by-line e ↦
+          value-unique (cutList f s m) p q below (Memᴰ·append-right (slower s f) (List·Memᴰ·head refl)) (e ∙ sym (line-at s m p q))
+      | by-slow k n h e ↦
+          value-unique (cutList f s m) p q below (Memᴰ·append-left _ (slower-has s n h)) (e ∙ sym (later-at _ _ _ _))
+    ]
   where
     below : (k : Bucket) → k ∈ cutList f s m → cutAt f (s .rate) m (p + s .latency * q) q ≤ bucketAt k p q
     below k n =
@@ -131,13 +142,6 @@ cut-list f s m p q = reached (cut-reached (s .rate) m (p + s .latency * q) q f)
           | inr i ↦
               le-trans (cut-line _ _ _ _ f) (le-of-eq (sym (same-bucket-at p q (List·Memᴰ·eq-of-singleton i) ∙ line-at s m p q)))
         ]
-
-    reached :
-        CutReached f (s .rate) m (p + s .latency * q) q → valueAt (cutList f s m) p q ≡ cutAt f (s .rate) m (p + s .latency * q) q
-    reached (by-line e) =
-        value-unique (cutList f s m) p q below (Memᴰ·append-right (slower s f) (List·Memᴰ·head refl)) (e ∙ sym (line-at s m p q))
-    reached (by-slow k n h e) =
-        value-unique (cutList f s m) p q below (Memᴰ·append-left _ (slower-has s n h)) (e ∙ sym (later-at _ _ _ _))
 
 -- a curve behind a server is the cut, a latency later
 pub behind-cut :
@@ -168,16 +172,21 @@ module _ (f : List Bucket) (rate m s : ℕ) (meets : reads f s ≡ rate * s + m)
 
   -- up to s the cut is the line
   pub cut-early : (p q : ℕ) → p ≤ s * q → cutAt f rate m p q ≡ rate * p + m * q
-  cut-early p q h = reached (cut-reached rate m p q f)
-    where
-      reached : CutReached f rate m p q → cutAt f rate m p q ≡ rate * p + m * q
-      reached (by-line e) = e
-      reached (by-slow k n slow e) =
-          le-antisymm (cut-line rate m p q f) (le-trans (flatter-before k rate m s (not-below n) p q slow h) (le-of-eq (sym e)))
+  cut-early p q h =
+      elim (cut-reached rate m p q f) [
+        | by-line e ↦ e
+        | by-slow k n slow e ↦
+            le-antisymm (cut-line rate m p q f) (le-trans (flatter-before k rate m s (not-below n) p q slow h) (le-of-eq (sym e)))
+      ]
 
   -- from s on it is the smaller of curve and line
   pub cut-late : 1 ≤ length f → (p q : ℕ) → s * q ≤ p → cutAt f rate m p q ≡ min (valueAt f p q) (rate * p + m * q)
-  cut-late some p q h = le-antisymm (le-min (below-value f p q below some) (cut-line rate m p q f)) (reached (cut-reached rate m p q f))
+  cut-late some p q h =
+      le-antisymm (le-min (below-value f p q below some) (cut-line rate m p q f))
+      (elim (cut-reached rate m p q f) [
+        | by-line e ↦ le-trans (min-le-right _ _) (le-of-eq (sym e))
+        | by-slow k n slow e ↦ le-trans (min-le-left _ _) (le-trans (value-least f p q n) (le-of-eq (sym e)))
+      ])
     where
       below : (k : Bucket) → k ∈ f → cutAt f rate m p q ≤ bucketAt k p q
       below k n =
@@ -185,7 +194,3 @@ module _ (f : List Bucket) (rate m s : ℕ) (meets : reads f s ≡ rate * s + m)
             | inl slow ↦ cut-slow rate m p q n slow
             | inr fast ↦ le-trans (cut-line rate m p q f) (steeper-after k rate m s (not-below n) p q (le-of-lt fast) h)
           ]
-
-      reached : CutReached f rate m p q → min (valueAt f p q) (rate * p + m * q) ≤ cutAt f rate m p q
-      reached (by-line e) = le-trans (min-le-right _ _) (le-of-eq (sym e))
-      reached (by-slow k n slow e) = le-trans (min-le-left _ _) (le-trans (value-least f p q n) (le-of-eq (sym e)))

@@ -13,19 +13,17 @@ use borrow.Author.Tests.{eq-eqb, ne-eqb}
 use Rattle.meaning.specs.Curve.{Bucket, bucketAt, tickValue, NormalForm}
 use Rattle.meaning.specs.Server.{Server, served, reads, Smallest, Excess, Delay, last}
 use Rattle.meaning.specs.Computed.{pick, delay}
-use Rattle.meaning.proofs.Value.{value-least, Reached, value-reached}
+use Rattle.meaning.proofs.Value.{value-least, value-reached}
 use Rattle.meaning.proofs.Joining.{served-past, rounded-up-is}
 use Rattle.meaning.proofs.Excess.{excess-is}
 
 -- a curve that carries nothing by tick 1 carries nothing by any tick
 carries-nothing : (f : List Bucket) → 1 ≤ length f → reads f 1 ≡ 0 → (t : ℕ) → reads f t ≡ 0
 unfolding reads bucketAt
-carries-nothing f some none t = from (value-reached f 1 1 some)
-  where
-    from : Reached f 1 1 → tickValue f t ≡ 0
-    from r =
-        let idle : r .bucket .rate ≡ 0 = omega (arith, r .value-is) in
-        omega (arith, r .value-is, value-least f t 1 (r .inside), ap (λ x. x * t) idle)
+carries-nothing f some none t =
+    let r = value-reached f 1 1 some in
+    let idle : r .bucket .rate ≡ 0 = omega (arith, r .value-is) in
+    omega (arith, r .value-is, value-least f t 1 (r .inside), ap (λ x. x * t) idle)
 
 -- so it has no delay
 pub delay-of-nothing : (f : List Bucket) (s : Server) → 1 ≤ length f → reads f 1 ≡ 0 → Delay f s 0

@@ -6,22 +6,20 @@
 -- Assumes nothing.
 use mathlib.Core.Path.{_≡_, refl, sym, _∙_, ap}
 use mathlib.Core.Logic.{inl, inr}
-use mathlib.Core.List.{List, [], _∷_, List·Memᴰ·cases-cons, List·Memᴰ·eq-of-singleton}
-use Prim.Native.Nat.{ℕ, suc, _+_, _-_, _*_, _≤_, _<_}
-use native.Mathlib.Nat.{le-trans, le-of-eq, le-of-lt, mul-le-mul-right}
+use mathlib.Core.List.{List, []}
+use Prim.Native.Nat.{ℕ, _+_, _-_, _*_, _≤_, _<_}
 use native.Mathlib.Omega.{arith}
 use lib.ListN.{length}
 use lib.Dec.{lit≤}
-use Rattle.meaning.specs.Curve.{Bucket, _∈_, buckets, flat, bucketAt, tickValue, Falling, NormalForm}
-use Rattle.meaning.specs.Server.{Server, served, reads, GreatestGap, Excess, join, Behind, Delay, Residual, last}
+use Rattle.meaning.specs.Curve.{buckets, flat, tickValue, NormalForm}
+use Rattle.meaning.specs.Server.{Server, served, reads, GreatestGap, join, Behind, Delay, Residual, last}
 use Rattle.meaning.specs.Refusal.{RANGE, UNBOUNDED, LARGE, number, Lines, _when_, _or_, Clear, Verdict, accepted, curveLines, over, Outcome, part, PartOutcome, FigureOutcome}
 use Rattle.meaning.specs.ServerQuestions.{ServerInRange, serverLines, portLines, passing, BacklogOutcome, DelayOutcome, ServerOutcome, JoinOutcome, ResidualOutcome}
 use Rattle.meaning.proofs.Order.{not-above}
-use Rattle.meaning.proofs.Value.{same-rate, value-reached}
 use Rattle.meaning.proofs.Stable.{server-stable}
-use Rattle.meaning.proofs.Excess.{gap-unique}
+use Rattle.meaning.proofs.Excess.{gap-unique, excess-bounded}
 use Rattle.meaning.proofs.Behind.{behind-greatest}
-use Rattle.meaning.proofs.Joining.{last-inside, smallest-unique, residual-unique, residual-law, same-server, Convolution, join-convolution}
+use Rattle.meaning.proofs.Joining.{smallest-unique, residual-unique, residual-law, same-server, Convolution, join-convolution}
 use Rattle.meaning.proofs.HopByHop.{hop-by-hop, behind-unique, either-order, joined-delay}
 use Rattle.meaning.proofs.Lists.{over-start}
 use Rattle.meaning.proofs.Outcomes.{number-positive, Same, Single, refused-once, refused-or-clear, one-figure, UpTo, from-when, up-to-when, up-to-or, line-hit, clear-or, refused-first, refused-then, refusal, refuse, refuse-in-part, written-out, no-room}
@@ -97,24 +95,6 @@ module _ (f : List ℕ) (s : Server) {Broken : Type 0} (clear : Clear (curveLine
   pub port-bounded : Broken → ⊥
   port-bounded broken = clear UNBOUNDED (inr (refl, broken))
 
--- no bucket's rate is below the last one's
-last-slowest : (f : List Bucket) → Falling f → {k : Bucket} → k ∈ f → last f .rate ≤ k .rate
-unfolding Falling last
-last-slowest (j ∷ []) falling m = le-of-eq (sym (same-rate (List·Memᴰ·eq-of-singleton m)))
-last-slowest (j ∷ i ∷ f) falling m =
-    elim (List·Memᴰ·cases-cons m) [
-      | inl e ↦ rw e (le-of-lt (falling .0 (last (i ∷ f)) (last-inside (i ∷ f) (omega arith))))
-      | inr n ↦ last-slowest (i ∷ f) (falling .1) n
-    ]
-
--- a curve that has an excess for a rate ends in a bucket of at most that rate: at a late tick no other is that low
-pub excess-bounded : {f : List Bucket} {rate m : ℕ} → NormalForm f → Excess f rate m → last f .rate ≤ rate
-unfolding reads bucketAt
-excess-bounded {f} {rate} {m} form e =
-    let r = value-reached f (suc m) 1 (form .some) in
-    le-trans (last-slowest f (form .falling) (r .inside))
-    (not-above (λ h. omega (arith, r .value-is, e .greatest (suc m), mul-le-mul-right (suc m) h)))
-
 -- ---- Demand 2: what is answered.
 
 -- The curve behind: in normal form, taken wherever a curve is, and at every whole t its value is the greatest over whole u of
@@ -168,6 +148,7 @@ answered-join s next o =
     record { definition = known .1; in-range = known .2; convolution = rw (known .1) (join-convolution s next) }
 
 module _ (f : List ℕ) (s : Server) where
+  -- a list that is answered is the curve behind
   read-behind :
       {before after : List ℕ} {count : ℕ} {g : List ℕ} → AnsweredList (passing f s) before after count g → BehindRead f s g
   unfolding passing
@@ -270,21 +251,24 @@ module _ {f : List ℕ} {s next joined : Server} {a g : List ℕ} (hops : TwoHop
   first-behind : BehindRead f s a
   first-behind = read-behind f s (hop-read (hops .first))
 
+  -- the second with its list,
   last-list : AnsweredList (passing a next) (hops .second .before) (hops .second .after) (hops .second .count) g
   last-list = hop-read (hops .second)
 
   second-behind : BehindRead a next g
   second-behind = read-behind a next last-list
 
+  -- the joined server is what join says,
   joined-is : joined ≡ join s next
   joined-is = answered-join s next (hops .joining) .definition
 
-  curve-clear : Clear (curveLines f)
+  -- no line holds of the first curve, which is in normal form,
+  first-clear : Clear (curveLines f)
   unfolding passing
-  curve-clear = port-curve f s (hop-read (hops .first) .operands-clear)
+  first-clear = port-curve f s (hop-read (hops .first) .operands-clear)
 
   curve-form : NormalForm (buckets f)
-  curve-form = clear-form f curve-clear
+  curve-form = clear-form f first-clear
 
   -- the second hop's curve stands behind the joined server,
   joined-behind : Behind (buckets f) joined (buckets g)
@@ -293,7 +277,7 @@ module _ {f : List ℕ} {s next joined : Server} {a g : List ℕ} (hops : TwoHop
   -- no line holds of the first curve and the joined server,
   joined-clear : Clear (portLines f joined)
   joined-clear =
-      clear-or (clear-or curve-clear (λ r h. h .1 (answered-join s next (hops .joining) .in-range)))
+      clear-or (clear-or first-clear (λ r h. h .1 (answered-join s next (hops .joining) .in-range)))
       (λ r h. omega (arith, h .1, excess-bounded curve-form (joined-behind .excess)))
 
   -- so the one step is answered with that list, given room,

@@ -1,5 +1,6 @@
 -- Every input has an outcome: each line of the table can be decided of its operands, and where none holds there is an exact
--- answer, whose size can be compared. So no contract is empty; that it leaves no second outcome stands in Demands.
+-- answer, whose size can be compared. So no contract is empty; that none leaves a second outcome stands in Answers
+-- and Demands.
 -- Assumes nothing.
 use mathlib.Core.Path.{refl, subst, sym, _∙_}
 use mathlib.Core.Logic.{_⊎_, inl, inr, ⊎-elim, Dec·not}
@@ -34,39 +35,43 @@ use Rattle.meaning.proofs.Outcomes.{number-positive, Single, UpTo, up-t
 abbrev Decided : Lines → Type 0
 Decided lines = (code : ℕ) × Verdict lines code
 
--- a line, and two tests together
+-- that of one line does,
 decide-line : (r : Refusal) {P : Type 0} → Dec P → Decided (r when P)
 decide-line r (yes x) = (number r, line-hit r x)
 decide-line r (no x) = (0, line-miss x)
 
+-- and two tests together
 decide-or : {a b : Lines} → Decided a → Decided b → Decided (a or b)
 decide-or (x, v) (y, w) = (earlier x y, verdict-or v w)
 
--- either of two
+-- either of two can be decided,
 decide-either : {P Q : Type 0} → Dec P → Dec Q → Dec (P ⊎ Q)
 decide-either (yes x) q = yes (inl x)
 decide-either (no x) (yes y) = yes (inr y)
 decide-either (no x) (no y) = no (⊎-elim x y)
 
--- an answer too large
+-- and whether an answer is too large
 decide-too-large : (f : List Bucket) → Dec (TooLarge f)
 decide-too-large f = decide-either (decLe 65 (length f)) (Dec·not (decide-all-in-range f))
 
 -- ---- The lines of operands.
 
--- of a raw list, a curve, a server, and a curve with a server and the bound on its last rate
+-- a test of a raw list comes out,
 raw-decided : (l : List ℕ) → Decided (rawLines l)
 raw-decided l =
     decide-or (decide-or (decide-line LIST (decide-either (ℕ-discrete (length l) 0) (ℕ-discrete (length l % 2) 1)))
     (decide-line COUNT (decLe 65 (length (buckets l)))))
     (decide-line RANGE (Dec·not (decide-all-in-range (buckets l))))
 
+-- of a curve,
 curve-decided : (f : List ℕ) → Decided (curveLines f)
 curve-decided f = decide-or (raw-decided f) (decide-line FORM (Dec·not (decide-normal (buckets f))))
 
+-- of a server,
 server-decided : (s : Server) → Decided (serverLines s)
 server-decided s = decide-line RANGE (Dec·not (decide-server s))
 
+-- and of a curve with a server and a bound that the last rate breaks
 port-decided :
     (f : List ℕ) (s : Server) {Broken : Type 0} → Dec Broken
     → Decided (curveLines f or serverLines s or UNBOUNDED when Broken)
@@ -81,12 +86,13 @@ pub record HasOutcome (ask : Question) (before : List ℕ) : Type 0 where
   pub count : ℕ
   pub outcome : Outcome ask before after code count
 
--- There is a code and a figure, or a code and a server.
+-- There is a code and a figure.
 pub record HasFigure (FigureOf : ℕ → ℕ → Type 0) : Type 0 where
   pub code : ℕ
   pub figure : ℕ
   pub outcome : FigureOf code figure
 
+-- There is a code and a server.
 pub record HasServer (ServerOf : ℕ → Server → Type 0) : Type 0 where
   pub code : ℕ
   pub server : Server
@@ -173,18 +179,20 @@ normal-outcome :
 normal-outcome {raw = raw} before decided upto filled =
     curve-outcome _ before decided upto (λ f g. normal-of-unique) (λ clear. (normal raw, normal-is raw (filled clear)))
 
--- normalise, lower, sum, shape and value
+-- normalise has an outcome over every lent list,
 pub normalise-has-outcome : (raw before : List ℕ) → HasOutcome (normalising raw) before
 unfolding normalising
 normalise-has-outcome raw before = normal-outcome before (raw-decided raw) (raw-up-to raw) (raw-some raw)
 
 module _ (f g before : List ℕ) where
+  -- lower has,
   pub lower-has-outcome : HasOutcome (lowering f g) before
   unfolding lowering
   lower-has-outcome =
       normal-outcome before (decide-or (curve-decided f) (curve-decided g)) (up-to-or (curve-up-to f) (curve-up-to g))
       (λ clear. omega (arith, both-form f g clear .0 .some, length-append (buckets f) (buckets g)))
 
+  -- sum has,
   pub sum-has-outcome : HasOutcome (summing f g) before
   unfolding summing
   sum-has-outcome =
@@ -196,6 +204,7 @@ module _ (f g before : List ℕ) where
         mul-le-mul (both-form f g clear .0 .some) (both-form f g clear .1 .some),
       ))
 
+-- and shape has;
 pub shape-has-outcome : (f : List ℕ) (d : ℕ) (before : List ℕ) → HasOutcome (shaping f d) before
 unfolding shaping number
 shape-has-outcome f d before =
@@ -204,6 +213,7 @@ shape-has-outcome f d before =
     (up-to-or (curve-up-to f) (up-to-when RANGE (lit≤ tt)))
     (λ clear. omega (arith, length-append (buckets f) (record { rate = d; burst = 0 } ∷ [])))
 
+-- value has one
 pub value-has-outcome : (f : List ℕ) (t : ℕ) → HasFigure (ValueOutcome f t)
 unfolding ValueOutcome
 value-has-outcome f t =
@@ -216,34 +226,39 @@ module _ (f : List ℕ) (s : Server) where
   bounded : Dec (s .rate < last (buckets f) .rate)
   bounded = decLe (suc (s .rate)) (last (buckets f) .rate)
 
+  -- where no line holds it is not
   last-bounded : Clear (portLines f s) → last (buckets f) .rate ≤ s .rate
   last-bounded clear = not-above (port-bounded f s clear)
 
-  -- behind, backlog, delay, residual and join
+  -- behind has an outcome over every lent list,
   pub behind-has-outcome : (before : List ℕ) → HasOutcome (passing f s) before
   unfolding passing
   behind-has-outcome before =
       curve-outcome (passing f s) before (port-decided f s bounded) (port-up-to f s) (single-behind f s)
       (λ clear. (behind (buckets f) s, behind-is (buckets f) s (port-form f s clear) (last-bounded clear)))
 
+  -- backlog has one,
   pub backlog-has-outcome : HasFigure (BacklogOutcome f s)
   unfolding BacklogOutcome
   backlog-has-outcome =
       figure-outcome (port-decided f s bounded)
       (λ clear. (backlog (buckets f) s, backlog-is (buckets f) s (port-form f s clear) (last-bounded clear)))
 
+  -- delay has one,
   pub delay-has-outcome : HasFigure (DelayOutcome f s)
   unfolding DelayOutcome
   delay-has-outcome =
       figure-outcome (port-decided f s bounded)
       (λ clear. (delay (buckets f) s, delay-is s (port-form f s clear) (last-bounded clear) (port-server f s clear .rate-some)))
 
+  -- residual has one,
   pub residual-has-outcome : HasServer (ResidualOutcome f s)
   unfolding ResidualOutcome
   residual-has-outcome =
       server-outcome (port-decided f s (decLe (s .rate) (last (buckets f) .rate))) (port-up-to f s) (λ x y. residual-unique)
       (λ clear. (residual (buckets f) s, residual-is (buckets f) s (port-server f s clear .rate-some)))
 
+-- and join has one
 pub join-has-outcome : (s next : Server) → HasServer (JoinOutcome s next)
 unfolding JoinOutcome
 join-has-outcome s next =

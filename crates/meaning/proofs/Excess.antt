@@ -5,8 +5,8 @@
 use mathlib.Core.Path.{_≡_, refl, sym, _∙_}
 use mathlib.Core.Logic.{_⊎_, inl, inr}
 use mathlib.Core.List.{List, [], _∷_, _++_, List·Memᴰ·head, List·Memᴰ·tail, List·Memᴰ·eq-of-singleton, Memᴰ·append-right}
-use Prim.Native.Nat.{ℕ, _+_, _-_, _*_, _/_, _≤_, _<_}
-use native.Mathlib.Nat.{le-trans, le-of-eq, le-of-lt, le-antisymm, lt-of-mul-lt-mul-right, lt-div-mul-add, div-mul-le-self}
+use Prim.Native.Nat.{ℕ, suc, _+_, _-_, _*_, _/_, _≤_, _<_}
+use native.Mathlib.Nat.{mul-le-mul-right, le-trans, le-of-eq, le-of-lt, le-antisymm, lt-of-mul-lt-mul-right, lt-div-mul-add, div-mul-le-self}
 use native.Mathlib.Omega.{arith}
 use lib.ListN.{length, take, getD, length-append}
 use lib.Seq.{append-snoc, take-at, getD-at}
@@ -17,6 +17,7 @@ use Rattle.meaning.specs.Computed.{pick, excessAt, excessFrom, excess}
 use Rattle.meaning.proofs.Order.{le-or-lt, not-above, crosswise}
 use Rattle.meaning.proofs.Lists.{cons-each, append-each}
 use Rattle.meaning.proofs.Value.{same-rate, same-bucket-at, value-least, value-unique, Reached, value-reached}
+use Rattle.meaning.proofs.Joining.{last-slowest}
 use Rattle.meaning.proofs.Neighbours.{Meet, meet, meet-at, before-if-below, after-if-below, below-rises}
 
 -- the greatest gap is one number
@@ -194,34 +195,34 @@ module _ {f : List Bucket} {rate : ℕ} (n : NormalForm f) (w : Turn f rate) whe
 
   -- at the whole tick up to the crossing the one before is not above a bucket of rate at most R
   before-lowest : (j : Bucket) → j ∈ f → j .rate ≤ rate → bucketAt (w .before) (tick w) 1 ≤ bucketAt j (tick w) 1
-  before-lowest j m slow = split (placed m)
+  before-lowest j m slow =
+      elim (placed m) [
+        | is-steeper h ↦ absurd (omega (arith, before-steep))
+        | is-before e ↦ le-of-eq (sym (same-bucket-at _ _ e))
+        | is-first e ↦ le-trans ahead (le-of-eq (sym (same-bucket-at _ _ e)))
+        | is-flatter h ↦
+            le-trans ahead (le-of-lt (below-flat (n .useful _ first-inside) before-inside m turns h (tick w) ahead))
+      ]
     where
       ahead : bucketAt (w .before) (tick w) 1 ≤ bucketAt (w .first) (tick w) 1
       ahead = not-above (λ h. omega (arith, after-if-below crosses (tick w) 1 h, div-mul-le-self (rise w) (fall w)))
 
-      split : Place (w .before) (w .first) j → bucketAt (w .before) (tick w) 1 ≤ bucketAt j (tick w) 1
-      split (is-steeper h) = absurd (omega (arith, before-steep))
-      split (is-before e) = le-of-eq (sym (same-bucket-at _ _ e))
-      split (is-first e) = le-trans ahead (le-of-eq (sym (same-bucket-at _ _ e)))
-      split (is-flatter h) =
-          le-trans ahead (le-of-lt (below-flat (n .useful _ first-inside) before-inside m turns h (tick w) ahead))
-
   -- at the tick after it the first is not above a bucket of rate above R
   first-lowest : (j : Bucket) → j ∈ f → rate < j .rate → bucketAt (w .first) (tick w + 1) 1 ≤ bucketAt j (tick w + 1) 1
-  first-lowest j m fast = split (placed m)
+  first-lowest j m fast =
+      elim (placed m) [
+        | is-steeper h ↦
+            le-trans past (le-of-lt (below-steep (n .useful _ before-inside) m first-inside h turns (tick w + 1) past))
+        | is-before e ↦ le-trans past (le-of-eq (sym (same-bucket-at _ _ e)))
+        | is-first e ↦ le-of-eq (sym (same-bucket-at _ _ e))
+        | is-flatter h ↦ absurd (omega (arith, w .flat))
+      ]
     where
       reaches : rise w < rise w / fall w * fall w + fall w
       reaches = lt-div-mul-add (omega (arith, turns))
 
       past : bucketAt (w .first) (tick w + 1) 1 ≤ bucketAt (w .before) (tick w + 1) 1
       past = not-above (λ h. omega (arith, before-if-below crosses (tick w + 1) 1 h, reaches))
-
-      split : Place (w .before) (w .first) j → bucketAt (w .first) (tick w + 1) 1 ≤ bucketAt j (tick w + 1) 1
-      split (is-steeper h) =
-          le-trans past (le-of-lt (below-steep (n .useful _ before-inside) m first-inside h turns (tick w + 1) past))
-      split (is-before e) = le-trans past (le-of-eq (sym (same-bucket-at _ _ e)))
-      split (is-first e) = le-of-eq (sym (same-bucket-at _ _ e))
-      split (is-flatter h) = absurd (omega (arith, w .flat))
 
   -- so the value is had there by a bucket of rate at least R,
   steep-there : (r : Reached f (tick w) 1) × (rate ≤ r .bucket .rate)
@@ -315,6 +316,20 @@ excess-is {f} rate n slow = cases n (kind f rate (n .some) slow)
     cases : {f : List Bucket} → NormalForm f → Kind rate f → Excess f rate (excess f rate)
     cases n (starts h e) = rw e (starting-excess n h)
     cases n (turns-at w e) = rw e (turn-excess n w)
+
+-- a curve that has an excess for a rate has a bucket of at most that rate: at a late tick no other is that low
+pub slow-bucket : {f : List Bucket} {rate m : ℕ} → 1 ≤ length f → Excess f rate m → (k : Bucket) × (k ∈ f) × (k .rate ≤ rate)
+unfolding reads bucketAt
+slow-bucket {f} {rate} {m} some e =
+    let r = value-reached f (suc m) 1 some in (
+      r .bucket,
+      r .inside,
+      not-above (λ h. omega (arith, r .value-is, e .greatest (suc m), mul-le-mul-right (suc m) h)),
+    )
+
+-- in normal form that is the last, so its rate is at most that rate
+pub excess-bounded : {f : List Bucket} {rate m : ℕ} → NormalForm f → Excess f rate m → last f .rate ≤ rate
+excess-bounded {f} n e = let k = slow-bucket (n .some) e in le-trans (last-slowest f (n .falling) (k .1)) (k .2)
 
 -- The bucket numbered k, buckets counted from 1.
 abbrev pub numbered : List Bucket → ℕ → Bucket

@@ -24,7 +24,7 @@ use Rattle.meaning.proofs.HopByHop.{behind-unique}
 use Rattle.meaning.proofs.Behind.{behind-is, backlog-is}
 use Rattle.meaning.proofs.Delay.{delay-is}
 use Rattle.meaning.proofs.Joining.{residual-is}
-use Rattle.meaning.proofs.Profiles.{ReadsBack, read-back-curve, read-back-server, server-bytes, p11-server, p11-curve}
+use Rattle.meaning.proofs.Profiles.{ReadsBack, read-back-curve, read-back-server, server-bytes}
 
 -- A list of numbers that no line of a curve refuses.
 record Sound (l : List ℕ) : Type 0 where
@@ -148,7 +148,7 @@ table =
       );
       p9 = (nothing .1, nothing .2, something .1, something .2);
       p10 = residual-is C (port 6 1) (lit≤ tt);
-      p11 = (p11-server, p11-curve);
+      p11 = (refl, refl);
       p12 = (
         record {
           report = _;

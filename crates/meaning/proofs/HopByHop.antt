@@ -7,20 +7,21 @@
 -- or before that latency, and then the curve is below its line ever after, and both cuts are the curve itself.
 -- Assumes nothing.
 use mathlib.Core.Path.{_≡_, refl, sym, _∙_, ap}
-use mathlib.Core.Logic.{_⊎_, inl, inr}
-use mathlib.Core.List.{List}
+use mathlib.Core.Logic.{inl, inr}
+use mathlib.Core.List.{List, List·Memᴰ·append-cases, List·Memᴰ·eq-of-singleton}
 use Prim.Native.Nat.{ℕ, suc, zero, _*_, _+_, _-_, _≤_, _<_, min}
 use native.Mathlib.Nat.{le-trans, le-of-eq, le-of-lt, le-suc-iff, min-eq-left, min-eq-right, mul-le-mul-left, mul-le-mul-right}
 use native.Mathlib.Omega.{arith}
 use lib.ListN.{length}
 use Rattle.meaning.specs.Curve.{Bucket, _∈_, bucketAt, valueAt}
-use Rattle.meaning.specs.Server.{Server, Instant, served, reads, join, Excess, Behind, Delay}
+use Rattle.meaning.specs.Server.{Server, Instant, served, reads, later, slower, join, Excess, Behind, Delay}
 use Rattle.meaning.proofs.Order.{le-or-lt, not-above, crosswise}
-use Rattle.meaning.proofs.Value.{value-least, value-reached, some, Reached}
-use Rattle.meaning.proofs.Unique.{normal-of-unique}
-use Rattle.meaning.proofs.Excess.{gap-unique, NotAbove, falls-from}
+use Rattle.meaning.proofs.Value.{same-rate, value-least, value-reached, some, Reached}
+use Rattle.meaning.proofs.Unique.{normal-inside, normal-of-unique}
+use Rattle.meaning.proofs.Excess.{gap-unique, NotAbove, falls-from, slow-bucket}
 use Rattle.meaning.proofs.Joining.{join-order}
-use Rattle.meaning.proofs.Cut.{cutAt, CutReached, by-line, by-slow, cut-line, cut-slow, cut-reached, cutList, cut-list, behind-cut, cut-early, cut-late, flatter-before, steeper-after}
+use Rattle.meaning.proofs.Behind.{behind-greatest}
+use Rattle.meaning.proofs.Cut.{cutAt, slower-from, cut-filled, by-line, by-slow, cut-line, cut-slow, cut-reached, cutList, cut-list, behind-cut, cut-early, cut-late, flatter-before, steeper-after}
 
 -- n is the greatest of a(u) minus b(u) over the instants up to `end`.
 record GreatestUpTo (a b : Instant → ℕ) (end n : ℕ) : Type 0 where
@@ -105,13 +106,13 @@ module _ {f a : List Bucket} {s : Server} (b : Behind f s a) {rate : ℕ} where
   -- and by every rate that is at least the server's, whatever gives that value
   server-flat : s .rate ≤ rate → Flat a rate
   unfolding reads bucketAt
-  server-flat flat = reached (cut-reached (s .rate) (b .m) (0 + s .latency * 1) 1 f)
-    where
-      reached : CutReached f (s .rate) (b .m) (0 + s .latency * 1) 1 → Flat a rate
-      reached (by-line e) =
-          below-bucket-flat a (record { rate = s .rate; burst = b .m }) (s .latency) flat (behind-cut b 0 1 (omega arith) ∙ e)
-          (λ p q h. le-trans (le-of-eq (behind-cut b p q h)) (cut-line (s .rate) (b .m) (p + s .latency * q) q f))
-      reached (by-slow k n slow e) = by-bucket-flat n slow (le-trans slow flat) (behind-cut b 0 1 (omega arith) ∙ e)
+  server-flat flat =
+      elim (cut-reached (s .rate) (b .m) (0 + s .latency * 1) 1 f) [
+        | by-line e ↦
+            below-bucket-flat a (record { rate = s .rate; burst = b .m }) (s .latency) flat (behind-cut b 0 1 (omega arith) ∙ e)
+            (λ p q h. le-trans (le-of-eq (behind-cut b p q h)) (cut-line (s .rate) (b .m) (p + s .latency * q) q f))
+        | by-slow k n slow e ↦ by-bucket-flat n slow (le-trans slow flat) (behind-cut b 0 1 (omega arith) ∙ e)
+      ]
 
 -- The cut of a, which stands a latency behind f, is a cut of f itself.
 record OneCut (f a : List Bucket) (latency rate next m : ℕ) : Type 0 where
@@ -169,23 +170,17 @@ module _
         upper-after p q h,
       )
 
--- a curve with an excess behind a faster server comes from one that has a slow bucket: at a late tick no other can be that low
+-- a curve with an excess behind a faster server comes from one that has a slow bucket
 behind-slow-bucket :
     {f a : List Bucket} {s : Server} (b : Behind f s a) {next m : ℕ} → Excess a next m → next < s .rate
     → (k : Bucket) × (k ∈ f) × (k .rate ≤ next)
-unfolding reads bucketAt
-behind-slow-bucket {f} {a} {s} b {next} {m} e h = reached (cut-reached (s .rate) (b .m) (suc m + s .latency * 1) 1 f)
-  where
-    low : cutAt f (s .rate) (b .m) (suc m + s .latency * 1) 1 ≤ next * suc m + m
-    low = le-trans (le-of-eq (sym (behind-cut b (suc m) 1 (omega arith)))) (e .greatest (suc m))
-
-    too-high : (r x : ℕ) → next < r → r * (suc m + s .latency * 1) + x ≤ next * suc m + m → ⊥
-    too-high r x l i = omega (arith, mul-le-mul-right (suc m) l)
-
-    reached : CutReached f (s .rate) (b .m) (suc m + s .latency * 1) 1 → (k : Bucket) × (k ∈ f) × (k .rate ≤ next)
-    reached (by-line d) = absurd (too-high (s .rate) (b .m * 1) h (le-trans (le-of-eq (sym d)) low))
-    reached (by-slow k n slow d) =
-        (k, n, not-above (λ i. too-high (k .rate) (k .burst * 1) i (le-trans (le-of-eq (sym d)) low)))
+unfolding later
+behind-slow-bucket {f} {s = s} b e h =
+    let k = slow-bucket (b .normal .form .some) e in
+    elim (List·Memᴰ·append-cases (slower s f) (normal-inside (cut-filled f s (b .m)) (b .normal) (k .1))) [
+      | inl i ↦ let r = slower-from s f i in (r .bucket, r .inside, omega (arith, k .2, same-rate (r .is-later)))
+      | inr i ↦ absurd (omega (arith, k .2, same-rate (List·Memᴰ·eq-of-singleton i)))
+    ]
 
 -- The next server is slower, and n is the excess over the first curve for its rate.
 module _
@@ -345,21 +340,14 @@ reads-rise f {t} {u} filled h =
     let r = value-reached f u 1 filled in
     omega (arith, r .value-is, value-least f t 1 (r .inside), mul-le-mul-left (r .bucket .rate) h)
 
-module _ {f a : List Bucket} {s : Server} (b : Behind f s a) where
-  -- from a latency later on the curve does not outgrow the one behind the server by more than the server's rate
-  behind-above-later : (v x : Instant) → reads f (v + s .latency + x) ≤ reads a v + s .rate * x
-  unfolding reads bucketAt
-  behind-above-later v x = reached (cut-reached (s .rate) (b .m) (v + s .latency * 1) 1 f)
-    where
-      reached : CutReached f (s .rate) (b .m) (v + s .latency * 1) 1 → valueAt f (v + s .latency + x) 1 ≤ valueAt a v 1 + s .rate * x
-      reached (by-line e) = omega (arith, behind-cut b v 1 (omega arith), e, b .excess .greatest (v + s .latency + x))
-      reached (by-slow k n slow e) =
-          omega (arith, behind-cut b v 1 (omega arith), e, value-least f (v + s .latency + x) 1 n, mul-le-mul-right x slow)
-
-  -- so at no tick is it above what stands behind the server at any tick and what is served from a latency past that tick on
-  behind-above : 1 ≤ length f → (v t : Instant) → reads f t ≤ reads a v + s .rate * (t - (v + s .latency))
-  behind-above filled v t =
-      le-trans (reads-rise f filled (omega arith)) (behind-above-later v (t - (v + s .latency)))
+-- at no tick is it above what stands behind a server at any tick and what is served from a latency past that tick on
+behind-above :
+    {f a : List Bucket} {s : Server} → 1 ≤ length f → Behind f s a → (v t : Instant)
+    → reads f t ≤ reads a v + s .rate * (t - (v + s .latency))
+unfolding reads served
+behind-above {f} {s = s} filled b v t =
+    let past : t - (v + s .latency) ≡ t - v - s .latency = omega arith in
+    rw past (omega (arith, reads-rise f {t = t} {u = v + (t - v)} filled (omega arith), behind-greatest filled b v .greatest (t - v)))
 
 -- the joined server's delay is at most the delays of the two hops together
 pub joined-delay :
@@ -367,30 +355,30 @@ pub joined-delay :
     → 1 ≤ length f → Behind f s a → Delay f s d → Delay a next e → Delay f (join s next) n → n ≤ d + e
 unfolding join served
 joined-delay {f} {a} {s} next {d} {e} filled b first second joined =
-    joined .smallest (d + e) (λ t. enough t (le-or-lt (s .rate) (next .rate)))
+    joined .smallest (d + e) (λ t.
+    elim (le-or-lt (s .rate) (next .rate)) [
+      | inl h ↦ rw (min-eq-left h) (first-slower t _ refl)
+      | inr h ↦ rw (min-eq-right (le-of-lt h)) (second-slower t _ refl)
+    ])
   where
     -- by any tick v behind the first server: the curve's value at t is served by the first in y ticks and by the next in z
     between : (t v y z : ℕ) → t - (v + s .latency) ≤ y → v + e - next .latency ≤ z → reads f t ≤ s .rate * y + next .rate * z
     between t v y z h l =
         omega
-        (arith, behind-above b filled v t, second .suffices v, mul-le-mul-left (s .rate) h, mul-le-mul-left (next .rate) l)
+        (arith, behind-above filled b v t, second .suffices v, mul-le-mul-left (s .rate) h, mul-le-mul-left (next .rate) l)
 
-    first-slower :
-        (t x : ℕ) → t + (d + e) - (s .latency + next .latency) ≡ x → (next .latency ≤ e) ⊎ (e < next .latency)
-        → reads f t ≤ s .rate * x
-    first-slower t x h (inl l) = le-trans (first .suffices t) (mul-le-mul-left (s .rate) (omega arith))
-    first-slower t x h (inr l) = omega (arith, between t (next .latency - e) x 0 (omega arith) (omega arith))
+    first-slower : (t x : ℕ) → t + (d + e) - (s .latency + next .latency) ≡ x → reads f t ≤ s .rate * x
+    first-slower t x h =
+        elim (le-or-lt (next .latency) e) [
+          | inl l ↦ le-trans (first .suffices t) (mul-le-mul-left (s .rate) (omega arith))
+          | inr l ↦ omega (arith, between t (next .latency - e) x 0 (omega arith) (omega arith))
+        ]
 
-    second-slower :
-        (t x : ℕ) → t + (d + e) - (s .latency + next .latency) ≡ x → (s .latency ≤ t + d) ⊎ (t + d < s .latency)
-        → reads f t ≤ next .rate * x
-    second-slower t x h (inl l) = omega (arith, between t (t - s .latency) 0 x (omega arith) (omega arith))
-    second-slower t x h (inr l) =
-        let nothing : t + d - s .latency ≤ 0 = omega arith in
-        omega (arith, first .suffices t, mul-le-mul-left (s .rate) nothing)
-
-    enough :
-        (t : Instant) → (s .rate ≤ next .rate) ⊎ (next .rate < s .rate)
-        → reads f t ≤ min (s .rate) (next .rate) * (t + (d + e) - (s .latency + next .latency))
-    enough t (inl h) = rw (min-eq-left h) (first-slower t _ refl (le-or-lt (next .latency) e))
-    enough t (inr h) = rw (min-eq-right (le-of-lt h)) (second-slower t _ refl (le-or-lt (s .latency) (t + d)))
+    second-slower : (t x : ℕ) → t + (d + e) - (s .latency + next .latency) ≡ x → reads f t ≤ next .rate * x
+    second-slower t x h =
+        elim (le-or-lt (s .latency) (t + d)) [
+          | inl l ↦ omega (arith, between t (t - s .latency) 0 x (omega arith) (omega arith))
+          | inr l ↦
+              let nothing : t + d - s .latency ≤ 0 = omega arith in
+              omega (arith, first .suffices t, mul-le-mul-left (s .rate) nothing)
+        ]

@@ -35,16 +35,17 @@ pub least-of-others :
 least-of-others f p q {k} others j m =
     elim (same-or-other j k) [ yes e ↦ le-of-eq (same-bucket-at p q (sym e)) | no other ↦ others j m other ]
 
--- what is useful is useful among fewer
+-- what is useful is useful in another list too, if it is below every other bucket of that at the same time
+unfoldable pub useful-there :
+    {f g : List Bucket} {k : Bucket} (u : Useful f k)
+    → ((j : Bucket) → j ∈ g → (j ≡ k → ⊥) → bucketAt k (u .p) (u .q) < bucketAt j (u .p) (u .q)) → Useful g k
+useful-there u below =
+    record { p = u .p; q = u .q; p-positive = u .p-positive; q-positive = u .q-positive; below = below }
+
+-- so it is useful among fewer
 unfoldable pub useful-fewer : {f g : List Bucket} {k : Bucket} → ((j : Bucket) → j ∈ g → j ∈ f) → Useful f k → Useful g k
-useful-fewer fewer u =
-    record {
-      p = u .p;
-      q = u .q;
-      p-positive = u .p-positive;
-      q-positive = u .q-positive;
-      below = λ j m other. u .below j (fewer j m) other;
-    }
+unfolding useful-there
+useful-fewer fewer u = useful-there u (λ j m other. u .below j (fewer j m) other)
 
 -- a useful bucket is not above any at the time at which it is useful
 pub useful-least :

@@ -14,10 +14,10 @@ use Rattle.meaning.specs.Curve.{Bucket, _∈_, bucketAt, Falling, Useful
 use Rattle.meaning.specs.Computed.{crossingsRise, isNormal}
 use Rattle.meaning.proofs.Order.{not-above}
 use Rattle.meaning.proofs.Lists.{cons-each}
-use Rattle.meaning.proofs.Lowest.{other-rate, useful-least, useful-fewer}
+use Rattle.meaning.proofs.Lowest.{other-rate, useful-least, useful-there, useful-fewer}
 
 -- p/q ≤ x/y and x/y < u/v give p/q < u/v
-earlier-trans : (p q x y u v : ℕ) → 0 < q → p * y ≤ x * q → x * v < u * y → p * v < u * q
+pub earlier-trans : (p q x y u v : ℕ) → 0 < q → p * y ≤ x * q → x * v < u * y → p * v < u * q
 earlier-trans p q x y u v hq h l =
     lt-of-mul-lt-mul-left y (omega (arith, mul-le-mul-left v h, mul-lt-mul-of-pos-left l hq))
 
@@ -159,24 +159,14 @@ rising-first (j ∷ f) k x y hy h =
 rising-later :
     {k : Bucket} {x y : ℕ} {j : Bucket} {f : List Bucket} → Step k x y j f → 0 < y → (i : Bucket)
     → UsefulAfter (j .burst - k .burst) (k .rate - j .rate) (j ∷ f) i → UsefulAfter x y (k ∷ j ∷ f) i
-rising-later {k} {x} {y} {j} {f} s hy i w =
+unfolding useful-there
+rising-later {j = j} s hy i w =
+    let u = w .useful in
+    let second = below-if-after (step-meet s) (u .p) (u .q) (w .after) in
     record {
-      useful =
-          record {
-            p = u .p;
-            q = u .q;
-            p-positive = u .p-positive;
-            q-positive = u .q-positive;
-            below = cons-each (λ other. omega (arith, useful-least u j (List·Memᴰ·head refl), second)) (u .below);
-          };
-      after = earlier-trans x y _ _ (u .p) (u .q) hy (le-of-lt (s .later)) (w .after);
+      useful = useful-there u (cons-each (λ other. omega (arith, useful-least u j (List·Memᴰ·head refl), second)) (u .below));
+      after = earlier-trans _ _ _ _ (u .p) (u .q) hy (le-of-lt (s .later)) (w .after);
     }
-  where
-    u : Useful (j ∷ f) i
-    u = w .useful
-
-    second : bucketAt j (u .p) (u .q) < bucketAt k (u .p) (u .q)
-    second = below-if-after (step-meet s) (u .p) (u .q) (w .after)
 
 -- every bucket is lowest at some time after the crossing before the first
 rising-useful :

@@ -196,12 +196,10 @@ module _
         passes (t .filled) (omega (arith, t .serves, port-serves f s clear)) (hop-by-hop (t .filled) (t .stands) b) within
       where
         within : (n : ℕ) → Delay first (join joined s) n → n ≤ delays hops + here .delay
-        within n h = from (figures-exist (t .filled) (t .serves) (t .stands))
-          where
-            from : (so-far : Figures) × FiguresOf first joined so-far → n ≤ delays hops + here .delay
-            from (so-far, y) =
-                omega
-                (arith, joined-delay s (t .filled) (t .stands) (y .delay-is) (x .delay-is) h, t .line so-far y .delay-within)
+        within n h =
+            let y = figures-exist (t .filled) (t .serves) (t .stands) in
+            omega
+            (arith, joined-delay s (t .filled) (t .stands) (y .1 .delay-is) (x .delay-is) h, t .line (y .0) (y .1) .delay-within)
 
 -- What a report says of its route, if it has one.
 abbrev Says : Report → Type 0

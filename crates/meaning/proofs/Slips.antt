@@ -125,19 +125,19 @@ one-rate-once asks o i j l h =
 -- P1 with (10, 2) kept twice
 pub kept-duplicate :
     {before : List ℕ} → Outcome (normalising p1-raw) before (over (10 ∷ 2 ∷ 10 ∷ 2 ∷ 3 ∷ 20 ∷ []) before) 0 3 → ⊥
-kept-duplicate o = omega (arith, only-answered p1-outcome o .0)
+kept-duplicate o = omega (arith, only-answered p1-outcome o .figure-same)
 
 -- ---- Usefulness.
 
 -- judged by < in place of ≤ (useless only where something is strictly lower): P2 with (3, 1) kept, though all three meet at 1
 pub useful-by-less :
     {before : List ℕ} → Outcome (normalising p2-raw) before (over (4 ∷ 0 ∷ 3 ∷ 1 ∷ 2 ∷ 2 ∷ []) before) 0 3 → ⊥
-useful-by-less o = omega (arith, only-answered p2-outcome o .0)
+useful-by-less o = omega (arith, only-answered p2-outcome o .figure-same)
 
 -- judged at whole ticks only: P3 with (4, 2) dropped
 pub useful-at-ticks :
     {before : List ℕ} → Outcome (normalising p3-raw) before (over (10 ∷ 0 ∷ 0 ∷ 5 ∷ []) before) 0 2 → ⊥
-useful-at-ticks o = omega (arith, only-answered p3-outcome o .0)
+useful-at-ticks o = omega (arith, only-answered p3-outcome o .figure-same)
 
 -- ---- The order of the refusals.
 
@@ -200,6 +200,7 @@ module _ {before after : List ℕ} {code count : ℕ} (f g : List ℕ) where
   unfolding lowering
   lower-second-counts w first o = second-counts f g _ w first (outcome-code o)
 
+  -- of a sum too,
   pub sum-second-counts :
       {r : Refusal} → Wins (curveLines g) r → From (number r) (curveLines f) → Outcome (summing f g) before after code count
       → code ≡ number r
@@ -211,6 +212,7 @@ module _ {before after : List ℕ} {code count : ℕ} (f g : List ℕ) where
   unfolding number
   lower-second-list h = lower-second-counts (list-wins g h) (curve-from f)
 
+  -- For a sum too.
   pub sum-second-list : EmptyOrOdd g → Outcome (summing f g) before after code count → code ≡ 4
   unfolding number
   sum-second-list h = sum-second-counts (list-wins g h) (curve-from f)
@@ -230,7 +232,7 @@ module _ {ask : Question} {before after : List ℕ} {code count : ℕ} where
 pub fixed-reply :
     {before after : List ℕ} {code count : ℕ} → 6 ≤ length before → Outcome (normalising p1-raw) before after code count
     → Outcome (normalising p3-raw) before after code count → ⊥
-fixed-reply room o o′ = omega (arith, p1-outcome .with-room (omega arith) o .1, p3-outcome .with-room room o′ .1)
+fixed-reply room o o′ = omega (arith, p1-outcome .with-room (omega arith) o .figure-same, p3-outcome .with-room room o′ .figure-same)
 
 module _
     {ask : Question} {raw f : List Bucket} (asks : AsksNormal ask raw) (right : ask .Answer f) {before : List ℕ} {count : ℕ}

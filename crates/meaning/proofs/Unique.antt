@@ -142,6 +142,10 @@ normal-unique {f} {g} hf hg same =
     (λ k m. useful-in-both same m (hf .useful k m) (hg .some))
     (λ k m. useful-in-both (λ p q hp hq. sym (same p q hp hq)) m (hg .useful k m) (hf .some))
 
+-- the buckets of a normal form are buckets of the raw list
+pub normal-inside : {raw f : List Bucket} {k : Bucket} → 1 ≤ length raw → NormalOf raw f → k ∈ f → k ∈ raw
+normal-inside filled n m = useful-in-both (λ p q hp hq. sym (n .same p q hq)) m (n .form .useful _ m) filled
+
 -- a list has one normal form
 pub normal-of-unique : {raw f g : List Bucket} → NormalOf raw f → NormalOf raw g → f ≡ g
 normal-of-unique hf hg = normal-unique (hf .form) (hg .form) (λ p q hp hq. sym (hf .same p q hq) ∙ hg .same p q hq)

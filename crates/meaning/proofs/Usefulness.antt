@@ -7,7 +7,7 @@ use mathlib.Core.Bool.{Bool, true, false, true≢false, and-eq-true-iff}
 use mathlib.Core.Logic.{_⊎_, inl, inr}
 use mathlib.Core.List.{List, [], _∷_, List·Memᴰ·head, List·Memᴰ·tail, List·Memᴰ·not-nil}
 use Prim.Native.Nat.{ℕ, _+_, _-_, _*_, _≤_, _<_}
-use native.Mathlib.Nat.{mul-pos, mul-le-mul-left, mul-lt-mul-of-pos-left, lt-of-mul-lt-mul-left, le-antisymm, eq-or-lt-of-le}
+use native.Mathlib.Nat.{le-of-lt, mul-pos, mul-le-mul-left, mul-lt-mul-of-pos-left, lt-of-mul-lt-mul-left, le-antisymm, eq-or-lt-of-le}
 use native.Mathlib.Omega.{arith}
 use lib.Dec.{ltb}
 use borrow.Author.Tests.{ltb-true, ltb-false, lt-ltb}
@@ -16,7 +16,7 @@ use Rattle.meaning.specs.Computed.{pick, Ends, everyTime, afterSteeper, 
 use Rattle.meaning.proofs.Order.{le-or-lt}
 use Rattle.meaning.proofs.Lists.{cons-each}
 use Rattle.meaning.proofs.Lowest.{same-bucket, other-rate}
-use Rattle.meaning.proofs.Neighbours.{below-rises}
+use Rattle.meaning.proofs.Neighbours.{earlier-trans, below-rises}
 
 -- what is picked of two by a test has what each of them has where the test picks it
 pub pick-holds {ℓ} :
@@ -52,11 +52,6 @@ module _ {e : Ends} {p q : ℕ} (t : Between e p q) where
   -- and its denominator
   pub over-positive : 0 < q
   over-positive = right-some (e .high) q (t .before)
-
--- where p/q < n/d and n/d ≤ m/o, also p/q < m/o
-wider : (n d m o p q : ℕ) → 0 < m → n * o ≤ m * d → p * d < n * q → p * o < m * q
-wider n d m o p q some h under =
-    lt-of-mul-lt-mul-left n (omega (arith, mul-le-mul-left p h, mul-lt-mul-of-pos-left under some))
 
 module _ (x y u v p q : ℕ) where
   -- x·p + y·q is less than u·p + v·q where (y - v)·q is less than p·(u - x)
@@ -114,7 +109,7 @@ module _ (e : Ends) (b n : ℕ) (some : 0 < n) where
           record {
             stays = λ {p} {q} m.
                 let some-over : 0 < e .lowOver = right-some b (e .lowOver) l in
-                omega (arith, wider n b (e .lowOver) (e .low) q p some-over (omega arith) (omega arith));
+                omega (arith, earlier-trans (e .low) (e .lowOver) b n p q some-over (le-of-lt l) (m .after));
             holds = λ m. m .after;
             keeps = λ m h. omega arith;
           }
@@ -123,7 +118,7 @@ module _ (e : Ends) (b n : ℕ) (some : 0 < n) where
       kept l =
           record {
             stays = λ m. m;
-            holds = λ {p} {q} m. omega (arith, wider (e .lowOver) (e .low) n b q p some (omega arith) (omega (arith, m .after)));
+            holds = λ {p} {q} m. earlier-trans b n (e .low) (e .lowOver) p q some l (m .after);
             keeps = λ m h. m;
           }
 
@@ -136,7 +131,7 @@ module _ (e : Ends) (b n : ℕ) (some : 0 < n) where
           record {
             stays = λ {p} {q} m.
                 let some-high : 0 < e .high = left-some (e .high) n l in
-                omega (arith, wider b n (e .high) (e .highOver) p q some-high (omega arith) (m .before));
+                omega (arith, earlier-trans (e .highOver) (e .high) n b q p some-high (omega arith) (omega (arith, m .before)));
             holds = λ m. m .before;
             keeps = λ m h. omega arith;
           }
@@ -147,7 +142,7 @@ module _ (e : Ends) (b n : ℕ) (some : 0 < n) where
             stays = λ m. m;
             holds = λ {p} {q} m.
                 let product : 0 < b * e .highOver = omega (arith, mul-pos (left-some (e .high) q (m .before)) some) in
-                wider (e .high) (e .highOver) b n p q (left-some b (e .highOver) product) l (m .before);
+                omega (arith, earlier-trans n b (e .highOver) (e .high) q p (left-some b (e .highOver) product) (omega arith) (omega (arith, m .before)));
             keeps = λ m h. m;
           }
 
