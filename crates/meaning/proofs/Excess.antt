@@ -388,7 +388,10 @@ at-turn {f} {rate} {m} n w e =
       p = rise w;
       q = fall w;
       q-positive = omega (arith, turns n w);
-      crossing = rw (before-at w, first-at w) (meet-at (crosses n w) (rise w) (fall w) .1 (omega arith));
+      crossing =
+          same-bucket-at _ _ (before-at w)
+          ∙ meet-at (crosses n w) (rise w) (fall w) .1 (omega arith)
+          ∙ sym (same-bucket-at _ _ (first-at w));
       reached = rw (← e) (turn-reached n w);
     }
 

@@ -99,10 +99,6 @@ module _ (answer before : List ℕ) where
   unfolding over
   over-length h = omega (arith, length-append answer (drop (length answer) before), length-drop (length answer) before)
 
--- a curve that is written is read back
-pub over-read : (f : List Bucket) (before : List ℕ) → buckets (take (2 * length f) (over (flat f) before)) ≡ f
-over-read f before = rw (← flat-length f) (rw over-start (buckets-flat f))
-
 -- ---- Lists of one length.
 
 -- behind two lists of one length the same numbers follow

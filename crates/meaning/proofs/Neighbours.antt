@@ -1,6 +1,7 @@
--- Neighbours are enough to check normal form: a list is in normal form exactly when rates fall strictly and the crossings of
--- neighbours come one strictly after the other, the first after time 0. A bucket is then strictly lowest between its crossing
--- with the bucket before it and its crossing with the bucket after it.
+-- Two buckets that cross: which of them is below, before the crossing and after it. And neighbours are enough to check normal
+-- form: a list is in normal form exactly when rates fall strictly and the crossings of neighbours come one strictly after the
+-- other, the first after time 0. A bucket is then strictly lowest between its crossing with the bucket before it and its crossing
+-- with the bucket after it.
 -- Assumes nothing.
 use mathlib.Core.Path.{_≡_, refl, sym, _∙_, ap}
 use mathlib.Core.Logic.{_↔_}

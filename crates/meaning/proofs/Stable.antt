@@ -4,7 +4,7 @@
 -- Assumes nothing.
 use mathlib.Core.Path.{_≡_, refl}
 use mathlib.Core.Logic.{Dec·and}
-use mathlib.Core.HLevel.{Stable, dec→stable}
+use mathlib.Core.HLevel.{dec→stable}
 use mathlib.Core.Bool.{Bool, true, false}
 use mathlib.Core.List.{List, [], _∷_, List·Memᴰ·head, List·Memᴰ·tail}
 use Prim.Native.Nat.{suc, _^_}
@@ -45,13 +45,13 @@ decide-normal f = split (isNormal f) refl
     split false e = no (neighbours-refute f e)
 
 -- buckets that are not out of range are in range
-pub range-stable : {f : List Bucket} → Stable (AllInRange f)
+pub range-stable : {f : List Bucket} → ((AllInRange f → ⊥) → ⊥) → AllInRange f
 range-stable {f} = dec→stable (decide-all-in-range f)
 
 -- so is a server
-pub server-stable : {s : Server} → Stable (ServerInRange s)
+pub server-stable : {s : Server} → ((ServerInRange s → ⊥) → ⊥) → ServerInRange s
 server-stable {s} = dec→stable (decide-server s)
 
 -- a list that is not out of normal form is in normal form
-pub normal-stable : {f : List Bucket} → Stable (NormalForm f)
+pub normal-stable : {f : List Bucket} → ((NormalForm f → ⊥) → ⊥) → NormalForm f
 normal-stable {f} = dec→stable (decide-normal f)

@@ -1,6 +1,7 @@
 -- A curve has one normal form: two lists in normal form with the same value at every positive fraction are the same list.
 -- A bucket of the one is strictly lowest at some time, and so lowest at a time shortly before and at one shortly after. A bucket
 -- of the other that has the value in between is nowhere below the common value, so it has the same rate and the same burst.
+-- So the buckets of a normal form are among those of the raw list.
 -- Assumes nothing.
 use mathlib.Core.Path.{_≡_, refl, sym, _∙_, ap}
 use mathlib.Core.Logic.{inl, inr}
