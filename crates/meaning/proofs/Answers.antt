@@ -1,10 +1,10 @@
--- What an answer is, as one who asks reads it. The outcome of each question is fixed: code, count and the whole list afterwards.
--- The code is 0 exactly where no line of the table holds, and otherwise the smallest number that applies. A curve that is
--- answered, read back from the list and the count alone, is in normal form, in range, and has at every non-negative fraction the
--- value that was asked for. The figures P1 to P4 are the only outcomes of their questions.
+-- What an answer is, as one who asks reads it. The outcome of each question over curves is fixed: code, count and the whole list
+-- afterwards. The code is 0 exactly where no line of the table holds, and otherwise the smallest number that applies. A curve
+-- that is answered, read back from the list and the count alone, is in normal form, in range, taken wherever a curve is, and has
+-- at every non-negative fraction the value that was asked for. The figures P1 to P4 are the only outcomes of their questions.
 -- Assumes nothing.
 use mathlib.Core.Path.{_≡_, refl, sym, _∙_, ap}
-use mathlib.Core.Logic.{_⊎_, inl, inr, _≢_, _↔_}
+use mathlib.Core.Logic.{inl, inr, _≢_, _↔_}
 use mathlib.Core.Bool.{true}
 use mathlib.Core.List.{List, [], _∷_, _++_}
 use Prim.Native.Nat.{ℕ, _+_, _*_, _%_, _≤_, _<_, min}
@@ -13,24 +13,22 @@ use lib.Dec.{lit≤}
 use lib.ListN.{length, take, drop, length-take}
 use lib.Seq.{take-take}
 use Rattle.meaning.specs.Curve.{Bucket, buckets, flat, bucketAt, valueAt, tickValue, pairs, NormalForm, NormalOf}
-use Rattle.meaning.specs.Refusal.{Refusal, LIST, LARGE, ROOM, number, Lines, Wins, Clear, Verdict, accepted, rejected, AllInRange, rawLines, curveLines, TooLarge, over, Answered, Question, allLines, Outcome, part, PartOutcome, FigureOutcome}
+use Rattle.meaning.specs.Refusal.{Refusal, LIST, COUNT, RANGE, FORM, LARGE, ROOM, number, Lines, _or_, Wins, Clear, Verdict, accepted, rejected, AllInRange, rawLines, curveLines, TooLarge, over, Answered, Question, allLines, Outcome, part, PartOutcome, FigureOutcome}
 use Rattle.meaning.specs.CurveQuestions.{normalising, lowering, summing, linkLine, shaping, ValueOutcome}
 use Rattle.meaning.specs.Computed.{isNormal, normal}
-use Rattle.meaning.proofs.Order.{le-or-lt}
+use Rattle.meaning.proofs.Order.{le-or-lt, not-above}
 use Rattle.meaning.proofs.Unique.{normal-of-unique}
 use Rattle.meaning.proofs.Neighbours.{neighbours-sound}
+use Rattle.meaning.proofs.Stable.{range-stable, normal-stable}
 use Rattle.meaning.proofs.Normal.{normal-is}
 use Rattle.meaning.proofs.Curves.{value-both, value-pairs}
-use Rattle.meaning.proofs.Outcomes.{number-positive, clear-or, wins-once, Same, Single, one-outcome, one-part-outcome, one-figure, no-room, written-out}
-use Rattle.meaning.proofs.Lists.{buckets-use, flat-length, EachInRange, all-in-range, range-stable, over-beyond, over-length, over-read}
+use Rattle.meaning.proofs.Outcomes.{number-positive, clear-or, wins-once, Same, Single, one-outcome, one-part-outcome, one-figure, UpTo, up-to-when, up-to-or, no-room, written-out}
+use Rattle.meaning.proofs.Lists.{buckets-use, flat-length, buckets-flat, EachInRange, all-in-range, over-start, over-beyond, over-length}
 
 -- ---- One outcome.
 
--- A question that the normal form of some buckets answers.
-pub record AsksNormal (ask : Question) (raw : List Bucket) : Type 0 where
-  pub answer-is : (f : List Bucket) → ask .Answer f → NormalOf raw f
-
--- No other outcome satisfies the contract: over a lent list, or over a part of a table.
+-- No other outcome satisfies the contract, over a lent list or over a part of a table: the code, the count and the full contents
+-- of the list or the table are fixed.
 pub record OneOutcome (ask : Question) : Type 0 where
   pub of-list :
       {before after after′ : List ℕ} {code count code′ count′ : ℕ}
@@ -40,51 +38,60 @@ pub record OneOutcome (ask : Question) : Type 0 where
       → PartOutcome ask at room before after code count → PartOutcome ask at room before after′ code′ count′
       → Same code count code′ count′ after after′
 
-module _ {ask : Question} {raw : List Bucket} (asks : AsksNormal ask raw) where
-  -- only one curve answers
-  pub single-normal : Single (ask .Answer)
-  single-normal f g hf hg = normal-of-unique (asks .answer-is f hf) (asks .answer-is g hg)
+-- where one curve answers there is one outcome
+pub one-curve : (ask : Question) → Single (ask .Answer) → OneOutcome ask
+one-curve ask one = record { of-list = one-outcome one; of-part = one-part-outcome one }
 
-  -- so there is one outcome
-  pub one-normal : OneOutcome ask
-  one-normal = record { of-list = one-outcome single-normal; of-part = one-part-outcome single-normal }
+-- A question that the normal form of some buckets answers.
+pub record AsksNormal (ask : Question) (raw : List Bucket) : Type 0 where
+  pub answer-is : (f : List Bucket) → ask .Answer f → NormalOf raw f
 
--- The four questions are such.
+-- one curve answers it
+pub single-normal : {ask : Question} {raw : List Bucket} → AsksNormal ask raw → Single (ask .Answer)
+single-normal asks f g hf hg = normal-of-unique (asks .answer-is f hf) (asks .answer-is g hg)
+
+-- normalise is such a question,
 pub normalising-asks : (raw : List ℕ) → AsksNormal (normalising raw) (buckets raw)
 unfolding normalising
 normalising-asks raw = record { answer-is = λ f right. right }
 
+-- lower is,
 pub lowering-asks : (f g : List ℕ) → AsksNormal (lowering f g) (buckets f ++ buckets g)
 unfolding lowering
 lowering-asks f g = record { answer-is = λ h right. right }
 
+-- sum is,
 pub summing-asks : (f g : List ℕ) → AsksNormal (summing f g) (pairs (buckets f) (buckets g))
 unfolding summing
 summing-asks f g = record { answer-is = λ h right. right }
 
+-- and shape is
 pub shaping-asks : (f : List ℕ) (d : ℕ) → AsksNormal (shaping f d) (buckets f ++ record { rate = d; burst = 0 } ∷ [])
 unfolding shaping
 shaping-asks f d = record { answer-is = λ h right. right }
 
--- So each of them has one outcome,
+-- normalise has one outcome,
 pub one-normalise : (raw : List ℕ) → OneOutcome (normalising raw)
-one-normalise raw = one-normal (normalising-asks raw)
+one-normalise raw = one-curve (normalising raw) (single-normal (normalising-asks raw))
 
+-- lower one,
 pub one-lower : (f g : List ℕ) → OneOutcome (lowering f g)
-one-lower f g = one-normal (lowering-asks f g)
+one-lower f g = one-curve (lowering f g) (single-normal (lowering-asks f g))
 
+-- sum one,
 pub one-sum : (f g : List ℕ) → OneOutcome (summing f g)
-one-sum f g = one-normal (summing-asks f g)
+one-sum f g = one-curve (summing f g) (single-normal (summing-asks f g))
 
+-- shape one,
 pub one-shape : (f : List ℕ) (d : ℕ) → OneOutcome (shaping f d)
-one-shape f d = one-normal (shaping-asks f d)
+one-shape f d = one-curve (shaping f d) (single-normal (shaping-asks f d))
 
--- and value has one figure.
+-- and value has one figure
 pub one-value :
     (f : List ℕ) (t : ℕ) {code figure code′ figure′ : ℕ}
     → ValueOutcome f t code figure → ValueOutcome f t code′ figure′ → (code ≡ code′) × (figure ≡ figure′)
 unfolding ValueOutcome
-one-value f t v w = one-figure (λ x y ex ey. ex ∙ sym ey) v w
+one-value f t = one-figure (λ x y ex ey. ex ∙ sym ey)
 
 -- ---- The code.
 
@@ -104,75 +111,127 @@ module _ {lines : Lines} {code : ℕ} where
   wins-code {r} w (accepted clear e) = absurd (clear r (w .holds))
   wins-code w (rejected s v e) = e ∙ wins-once v w
 
--- These speak of every outcome's code.
+-- this is so of the code of every outcome over a curve,
 pub outcome-code :
     {ask : Question} {before after : List ℕ} {code count : ℕ}
     → Outcome ask before after code count → Verdict (allLines ask (length before)) code
 outcome-code (Outcome.refused v) = rejected (v .why) (v .wins) (v .code-is)
 outcome-code (Outcome.answered v) = accepted (v .clear) (v .code-is)
 
+-- and over a figure
 pub figure-code :
     {lines : Lines} {Figure : ℕ → Type 0} {code figure : ℕ} → FigureOutcome lines Figure code figure → Verdict lines code
 figure-code (FigureOutcome.refused v) = rejected (v .why) (v .wins) (v .code-is)
 figure-code (FigureOutcome.answered clear e x) = accepted clear e
 
+-- ---- Operands that no line refuses.
+
+-- a raw list that is not refused has a bucket
+pub raw-some : (l : List ℕ) → Clear (rawLines l) → 1 ≤ length (buckets l)
+raw-some l clear =
+    let full : length l ≢ 0 = λ e. clear LIST (inl (inl (refl, inl e))) in
+    let even : length l % 2 ≢ 1 = λ e. clear LIST (inl (inl (refl, inr e))) in
+    omega (arith, buckets-use l)
+
+-- a curve that is not refused is in normal form,
+pub clear-form : (f : List ℕ) → Clear (curveLines f) → NormalForm (buckets f)
+clear-form f clear = normal-stable (λ out. clear FORM (inr (refl, out)))
+
+-- and is not too large
+pub clear-fits : (f : List ℕ) → Clear (curveLines f) → TooLarge (buckets f) → ⊥
+clear-fits f clear (inl many) = clear COUNT (inl (inl (inr (refl, many))))
+clear-fits f clear (inr out) = clear RANGE (inl (inr (refl, out)))
+
+-- two curves that are not refused are both in normal form
+pub both-form : (f g : List ℕ) → Clear (curveLines f or curveLines g) → NormalForm (buckets f) × NormalForm (buckets g)
+both-form f g clear = (clear-form f (λ r h. clear r (inl h)), clear-form g (λ r h. clear r (inr h)))
+
+module _ {f : List Bucket} (fits : TooLarge f → ⊥) where
+  -- what is not too large has at most 64 buckets,
+  pub fits-few : length f ≤ 64
+  fits-few = not-above (λ many. fits (inl many))
+
+  -- all of them in range
+  pub fits-ranged : AllInRange f
+  fits-ranged = range-stable (λ out. fits (inr out))
+
+-- the lines of a raw list have numbers up to 8,
+pub raw-up-to : (l : List ℕ) → UpTo 8 (rawLines l)
+unfolding number
+raw-up-to l = up-to-or (up-to-or (up-to-when LIST (lit≤ tt)) (up-to-when COUNT (lit≤ tt))) (up-to-when RANGE (lit≤ tt))
+
+-- and those of a curve
+pub curve-up-to : (f : List ℕ) → UpTo 8 (curveLines f)
+unfolding number
+curve-up-to f = up-to-or (raw-up-to f) (up-to-when FORM (lit≤ tt))
+
 -- ---- A curve that is answered.
 
--- The curve that one reads who has the list and the count.
-abbrev pub readBack : List ℕ → ℕ → List Bucket
-readBack after count = buckets (take (2 * count) after)
+-- The list that one reads who has the lent list afterwards and the count: two numbers for each bucket.
+abbrev pub readBack : List ℕ → ℕ → List ℕ
+readBack after count = take (2 * count) after
 
--- It is in normal form, has `count` buckets, 1 to 64 and all in range, and this value at every non-negative fraction (times q).
-pub record AnswersWith (Value : ℕ → ℕ → ℕ) (f : List Bucket) (count : ℕ) : Type 0 where
-  pub form : NormalForm f
-  pub counted : count ≡ length f
-  pub some : 1 ≤ count
-  pub few : count ≤ 64
-  pub ranged : AllInRange f
-  pub value-is : (p q : ℕ) → 0 < q → valueAt f p q ≡ Value p q
+-- A list g that is answered: no line holds of the operands, it is the exact answer and not too large, and it stands in the lent
+-- list, with its count.
+pub record AnsweredList (ask : Question) (before after : List ℕ) (count : ℕ) (g : List ℕ) : Type 0 where
+  pub operands-clear : Clear (ask .operands)
+  pub right : ask .Answer (buckets g)
+  pub fits : TooLarge (buckets g) → ⊥
+  pub count-is : count ≡ length (buckets g)
+  pub numbers : flat (buckets g) ≡ g
+  pub room : length g ≤ length before
+  pub written : after ≡ over g before
 
-module _ {ask : Question} {before after : List ℕ} {code count : ℕ} where
-  -- code 0 is an answer
-  pub answered-so :
-      Outcome ask before after code count → code ≡ 0
-      → Answered (allLines ask (length before)) (ask .Answer) before after code count
-  answered-so (Outcome.refused v) e = absurd (omega (arith, number-positive (v .why), v .code-is))
-  answered-so (Outcome.answered v) e = v
+-- such is the list that is read back of an answer,
+read-answer :
+    {ask : Question} {before after : List ℕ} {code count : ℕ}
+    → Answered (allLines ask (length before)) (ask .Answer) before after code count
+    → AnsweredList ask before after count (readBack after count)
+read-answer {before = before} {after = after} {count = count} v =
+    rw read-back
+    (record {
+      operands-clear = λ r h. v .clear r (inl h);
+      right = rw (buckets-flat (v .curve)) (v .right);
+      fits = rw (buckets-flat (v .curve)) (λ large. v .clear LARGE (inr (inl (refl, (v .curve, v .right, large)))));
+      count-is = rw (buckets-flat (v .curve)) (v .count-is);
+      numbers = rw (buckets-flat (v .curve));
+      room = not-above (λ short. v .clear ROOM (inr (inr (refl, (v .curve, v .right, short)))));
+      written = v .written;
+    })
+  where
+    read-back : readBack after count ≡ flat (v .curve)
+    read-back =
+        let n : 2 * count ≡ length (flat (v .curve)) = omega (arith, v .count-is, flat-length (v .curve)) in
+        rw (n, v .written) (over-start (flat (v .curve)) before)
 
-  module _ (v : Answered (allLines ask (length before)) (ask .Answer) before after code count) where
-    -- it is read back
-    pub read-back : readBack after count ≡ v .curve
-    read-back = rw (v .count-is, v .written) (over-read (v .curve) before)
+-- and code 0 is an answer
+pub answered-list :
+    {ask : Question} {before after : List ℕ} {count : ℕ} → Outcome ask before after 0 count
+    → AnsweredList ask before after count (readBack after count)
+answered-list (Outcome.refused v) = absurd (omega (arith, number-positive (v .why), v .code-is))
+answered-list (Outcome.answered v) = read-answer v
 
-    -- no operand was refused
-    pub answered-operands : Clear (ask .operands)
-    answered-operands r h = v .clear r (inl h)
+module _ {ask : Question} {before after : List ℕ} {count : ℕ} {g : List ℕ} (a : AnsweredList ask before after count g) where
+  -- an answered list has two numbers for each bucket
+  pub answered-length : length g ≡ 2 * count
+  answered-length = ap length (sym (a .numbers)) ∙ omega (arith, flat-length (buckets g), a .count-is)
 
-    -- it has at most 64 buckets
-    pub answered-few : count ≤ 64
-    answered-few = omega (arith, few, v .count-is)
-      where
-        few : 64 < length (v .curve) → ⊥
-        few many = v .clear LARGE (inr (inl (refl, (v .curve, v .right, inl many))))
-
-    -- they are in range
-    pub answered-ranged : AllInRange (v .curve)
-    answered-ranged = range-stable (λ out. v .clear LARGE (inr (inl (refl, (v .curve, v .right, inr out)))))
-
-    -- there was room for it
-    pub answered-room : length (flat (v .curve)) ≤ length before
-    answered-room = omega (arith, enough)
-      where
-        enough : length before < length (flat (v .curve)) → ⊥
-        enough short = v .clear ROOM (inr (inr (refl, (v .curve, v .right, short))))
+  -- and in normal form it is itself a curve that no line refuses
+  pub accepted-again : NormalForm (buckets g) → Clear (curveLines g)
+  accepted-again form r (inl (inl (inl (e, inl none)))) = omega (arith, answered-length, a .count-is, form .some)
+  accepted-again form r (inl (inl (inl (e, inr odd)))) = omega (arith, answered-length, a .count-is, buckets-use g)
+  accepted-again form r (inl (inl (inr h))) = a .fits (inl (h .1))
+  accepted-again form r (inl (inr h)) = a .fits (inr (h .1))
+  accepted-again form r (inr h) = h .1 form
 
 -- the lent list is as long as it was
 pub outcome-length :
     {ask : Question} {before after : List ℕ} {code count : ℕ} → Outcome ask before after code count
     → length after ≡ length before
 outcome-length (Outcome.refused v) = ap length (v .kept)
-outcome-length {before = before} (Outcome.answered v) =
-    ap length (v .written) ∙ over-length (flat (v .curve)) before (answered-room v)
+outcome-length {ask} {before} {after} {count = count} (Outcome.answered v) =
+    let a : AnsweredList ask before after count (readBack after count) = read-answer v in
+    ap length (a .written) ∙ over-length (readBack after count) before (a .room)
 
 -- the numbers beyond the answer stay
 pub beyond-stays :
@@ -182,21 +241,16 @@ beyond-stays {count = count} (Outcome.refused v) = ap (drop (2 * count)) (v .kep
 beyond-stays {before = before} (Outcome.answered v) =
     rw (v .count-is, v .written, ← flat-length (v .curve)) (over-beyond (flat (v .curve)) before)
 
-module _ {ask : Question} {raw : List Bucket} (asks : AsksNormal ask raw) {before after : List ℕ} {count : ℕ} where
-  -- an answered curve is in normal form, in range, and has the values of the buckets asked about
-  pub answers : Outcome ask before after 0 count → AnswersWith (valueAt raw) (readBack after count) count
-  answers o =
-      let v = answered-so o refl in
-      let n = asks .answer-is (v .curve) (v .right) in
-      rw (read-back v)
-      (record {
-        form = n .form;
-        counted = v .count-is;
-        some = omega (arith, v .count-is, n .form .some);
-        few = answered-few v;
-        ranged = answered-ranged v;
-        value-is = λ p q h. sym (n .same p q h);
-      })
+-- A list in normal form, of `count` buckets, 1 to 64 and all in range, so that it is taken wherever a curve is, with this value
+-- at every non-negative fraction (times q).
+pub record AnswersWith (Value : ℕ → ℕ → ℕ) (g : List ℕ) (count : ℕ) : Type 0 where
+  pub form : NormalForm (buckets g)
+  pub counted : count ≡ length (buckets g)
+  pub some : 1 ≤ count
+  pub few : count ≤ 64
+  pub ranged : AllInRange (buckets g)
+  pub accepted : Clear (curveLines g)
+  pub value-is : (p q : ℕ) → 0 < q → valueAt (buckets g) p q ≡ Value p q
 
 -- an answer in a part of a table is read from the part's start on
 pub part-read :
@@ -204,44 +258,43 @@ pub part-read :
     → readBack (part at room after) count ≡ readBack (drop at after) count
 unfolding part
 part-read {at = at} {room = room} {before = before} {after = after} {count = count} o =
-    let v = answered-so (o .inside) refl in
-    ap buckets
-    (take-take (2 * count) room (drop at after)
-    (omega (arith, v .count-is, flat-length (v .curve), answered-room v, length-take room (drop at before))))
+    let a = answered-list (o .inside) in
+    take-take (2 * count) room (drop at after)
+    (omega (arith, answered-length a, a .room, length-take room (drop at before)))
 
--- so the same is true of it
+-- A question that the normal form of some buckets answers, whose value is known:
+module _
+    {ask : Question} {raw : List Bucket} {Value : ℕ → ℕ → ℕ} (asks : AsksNormal ask raw) (value : (p q : ℕ) → valueAt raw p q ≡ Value p q)
+    {before after : List ℕ} {count : ℕ}
+  where
+    -- what is answered is such a list,
+    pub answers : Outcome ask before after 0 count → AnswersWith Value (readBack after count) count
+    answers o =
+        let a = answered-list o in
+        let n = asks .answer-is _ (a .right) in
+        record {
+          form = n .form;
+          counted = a .count-is;
+          some = omega (arith, a .count-is, n .form .some);
+          few = omega (arith, a .count-is, fits-few (a .fits));
+          ranged = fits-ranged (a .fits);
+          accepted = accepted-again a (n .form);
+          value-is = λ p q h. sym (n .same p q h) ∙ value p q;
+        }
+
+-- and so is what is answered in a part of a table
 pub answers-in-part :
-    {ask : Question} {raw : List Bucket} {at room : ℕ} {before after : List ℕ} {count : ℕ} → AsksNormal ask raw
-    → PartOutcome ask at room before after 0 count → AnswersWith (valueAt raw) (readBack (drop at after) count) count
-answers-in-part asks o = rw (part-read o) at (answers asks (o .inside))
-
--- the same values, said otherwise
-valued :
-    {Value Other : ℕ → ℕ → ℕ} {f : List Bucket} {count : ℕ}
-    → ((p q : ℕ) → Value p q ≡ Other p q) → AnswersWith Value f count → AnswersWith Other f count
-valued so a =
-    record {
-      form = a .form;
-      counted = a .counted;
-      some = a .some;
-      few = a .few;
-      ranged = a .ranged;
-      value-is = λ p q h. a .value-is p q h ∙ so p q;
-    }
-
--- a curve that is not refused has a bucket
-clear-some : (l : List ℕ) → Clear (curveLines l) → 1 ≤ length (buckets l)
-clear-some l clear =
-    let full : length l ≢ 0 = λ e. clear LIST (inl (inl (inl (refl, inl e)))) in
-    let even : length l % 2 ≢ 1 = λ e. clear LIST (inl (inl (inl (refl, inr e)))) in
-    omega (arith, buckets-use l)
+    {ask : Question} {raw : List Bucket} {Value : ℕ → ℕ → ℕ} (asks : AsksNormal ask raw) (value : (p q : ℕ) → valueAt raw p q ≡ Value p q)
+    {at room : ℕ} {before after : List ℕ} {count : ℕ} → PartOutcome ask at room before after 0 count
+    → AnswersWith Value (readBack (drop at after) count) count
+answers-in-part asks value o = rw (part-read o) at (answers asks value (o .inside))
 
 module _ {before after : List ℕ} {count : ℕ} where
   -- normalise: the raw list's values
   pub normalise-answers :
       (raw : List ℕ) → Outcome (normalising raw) before after 0 count
       → AnswersWith (valueAt (buckets raw)) (readBack after count) count
-  normalise-answers raw o = answers (normalising-asks raw) o
+  normalise-answers raw o = answers (normalising-asks raw) (λ p q. refl) o
 
   -- lower: the minimum of the two curves' values
   pub lower-answers :
@@ -249,10 +302,8 @@ module _ {before after : List ℕ} {count : ℕ} where
       → AnswersWith (λ p q. min (valueAt (buckets f) p q) (valueAt (buckets g) p q)) (readBack after count) count
   unfolding lowering
   lower-answers f g o =
-      let clear = answered-operands (answered-so o refl) in
-      valued
-      (λ p q. value-both (buckets f) (buckets g) p q (clear-some f (λ r h. clear r (inl h))) (clear-some g (λ r h. clear r (inr h))))
-      (answers (lowering-asks f g) o)
+      let forms = both-form f g (answered-list o .operands-clear) in
+      answers (lowering-asks f g) (λ p q. value-both (buckets f) (buckets g) p q (forms .0 .some) (forms .1 .some)) o
 
   -- sum: the sum of the two curves' values
   pub sum-answers :
@@ -260,10 +311,8 @@ module _ {before after : List ℕ} {count : ℕ} where
       → AnswersWith (λ p q. valueAt (buckets f) p q + valueAt (buckets g) p q) (readBack after count) count
   unfolding summing
   sum-answers f g o =
-      let clear = answered-operands (answered-so o refl) in
-      valued
-      (λ p q. value-pairs (buckets f) (buckets g) p q (clear-some f (λ r h. clear r (inl h))) (clear-some g (λ r h. clear r (inr h))))
-      (answers (summing-asks f g) o)
+      let forms = both-form f g (answered-list o .operands-clear) in
+      answers (summing-asks f g) (λ p q. value-pairs (buckets f) (buckets g) p q (forms .0 .some) (forms .1 .some)) o
 
   -- shape: the minimum of the curve's value and D·p/q, which times q is D·p
   pub shape-answers :
@@ -271,16 +320,20 @@ module _ {before after : List ℕ} {count : ℕ} where
       → AnswersWith (λ p q. min (valueAt (buckets f) p q) (d * p)) (readBack after count) count
   unfolding shaping valueAt bucketAt
   shape-answers f d o =
-      let clear = answered-operands (answered-so o refl) in
-      valued
-      (λ p q. value-both (buckets f) (record { rate = d; burst = 0 } ∷ []) p q (clear-some f (λ r h. clear r (inl h))) (omega arith) ∙ omega arith)
-      (answers (shaping-asks f d) o)
+      let form = clear-form f (λ r h. answered-list o .operands-clear r (inl h)) in
+      answers (shaping-asks f d)
+      (λ p q. value-both (buckets f) (record { rate = d; burst = 0 } ∷ []) p q (form .some) (omega arith) ∙ omega arith) o
+
+-- a figure that is answered is the figure, and no line holds
+pub figure-answered :
+    {lines : Lines} {Figure : ℕ → Type 0} {figure : ℕ} → FigureOutcome lines Figure 0 figure → Clear lines × Figure figure
+figure-answered (FigureOutcome.refused v) = absurd (omega (arith, v .code-is, number-positive (v .why)))
+figure-answered (FigureOutcome.answered clear e x) = (clear, x)
 
 -- value: the curve's value at the tick
 pub value-answer : (f : List ℕ) (t : ℕ) {figure : ℕ} → ValueOutcome f t 0 figure → figure ≡ tickValue (buckets f) t
 unfolding ValueOutcome
-value-answer f t (FigureOutcome.refused v) = absurd (omega (arith, number-positive (v .why), v .code-is))
-value-answer f t (FigureOutcome.answered clear e x) = x
+value-answer f t o = figure-answered o .1
 
 -- ---- The figures P1 to P4, as outcomes.
 
@@ -304,21 +357,20 @@ curve-clear l t form = clear-or (raw-clear l t) (λ r h. h .1 (neighbours-sound 
 pub record OnlyAnswer (ask : Question) (numbers : List ℕ) (count : ℕ) : Type 0 where
   pub with-room :
       {before after : List ℕ} {code count′ : ℕ} → length numbers ≤ length before → Outcome ask before after code count′
-      → (code ≡ 0) × (count′ ≡ count) × (after ≡ over numbers before)
+      → Same code count′ 0 count after (over numbers before)
   pub without-room :
       {before after : List ℕ} {code count′ : ℕ} → length before < length numbers → Outcome ask before after code count′
-      → (code ≡ 10) × (count′ ≡ 0) × (after ≡ before)
+      → Same code count′ 10 0 after before
 
 -- what is answered is these numbers, whatever the room
 pub only-answered :
     {ask : Question} {numbers : List ℕ} {count : ℕ} {before after : List ℕ} {count′ : ℕ} → OnlyAnswer ask numbers count
-    → Outcome ask before after 0 count′ → (count′ ≡ count) × (after ≡ over numbers before)
-only-answered {numbers = numbers} {count = count} {before = before} {after = after} {count′ = count′} known o =
-    split (le-or-lt (length numbers) (length before))
-  where
-    split : (length numbers ≤ length before) ⊎ (length before < length numbers) → (count′ ≡ count) × (after ≡ over numbers before)
-    split (inl room) = let r = known .with-room room o in (r .1, r .2)
-    split (inr short) = absurd (omega (arith, known .without-room short o .0))
+    → Outcome ask before after 0 count′ → Same 0 count′ 0 count after (over numbers before)
+only-answered {numbers = numbers} {before = before} known o =
+    elim (le-or-lt (length numbers) (length before)) [
+      | inl room ↦ known .with-room room o
+      | inr short ↦ absurd (omega (arith, known .without-room short o .code-same))
+    ]
 
 -- where no operand is refused and the answer is not too large, it is the only one
 module _
@@ -331,19 +383,11 @@ module _
 
     only-answer : OnlyAnswer ask (flat f) (length f)
     only-answer =
+        let one = single-normal asks in
         record {
-          with-room =
-              λ {before} room o.
-              plain (one-normal asks .of-list o (written-out ask before clear right (single-normal asks) small room));
-          without-room =
-              λ {before} short o.
-              plain (one-normal asks .of-list o (no-room ask before clear right (single-normal asks) small short));
+          with-room = λ {before} room o. one-outcome one o (written-out ask before clear right one small room);
+          without-room = λ {before} short o. one-outcome one o (no-room ask before clear right one small short);
         }
-      where
-        plain :
-            {code count code′ count′ : ℕ} {after after′ : List ℕ} → Same code count code′ count′ after after′
-            → (code ≡ code′) × (count ≡ count′) × (after ≡ after′)
-        plain s = (s .code-same, s .figure-same, s .after-same)
 
 -- normalise answers a list that is taken
 only-normalise :
@@ -351,33 +395,36 @@ only-normalise :
     → OnlyAnswer (normalising l) (flat (normal (buckets l))) (length (normal (buckets l)))
 unfolding normalising
 only-normalise l t fits =
-    only-answer (normalising-asks l) (raw-clear l t) (normal-is (buckets l) (omega (arith, t .0, t .1, buckets-use l))) fits
+    only-answer (normalising-asks l) (raw-clear l t) (normal-is (buckets l) (raw-some l (raw-clear l t))) fits
 
--- P1: what is normalised, and its only outcome
+-- P1: what is normalised,
 abbrev pub p1-raw : List ℕ
 p1-raw = 3 ∷ 20 ∷ 10 ∷ 2 ∷ 10 ∷ 2 ∷ 5 ∷ 15 ∷ 3 ∷ 25 ∷ []
 
+-- and its only outcome
 pub p1-outcome : OnlyAnswer (normalising p1-raw) (10 ∷ 2 ∷ 3 ∷ 20 ∷ []) 2
 unfolding normal buckets flat
 p1-outcome = only-normalise p1-raw (omega arith) (omega arith)
 
--- P2: all three meet at 1
+-- P2, where all three meet at 1,
 abbrev pub p2-raw : List ℕ
 p2-raw = 4 ∷ 0 ∷ 3 ∷ 1 ∷ 2 ∷ 2 ∷ []
 
+-- and its only outcome
 pub p2-outcome : OnlyAnswer (normalising p2-raw) (4 ∷ 0 ∷ 2 ∷ 2 ∷ []) 2
 unfolding normal buckets flat
 p2-outcome = only-normalise p2-raw (omega arith) (omega arith)
 
--- P3: (4, 2) is lowest at one half and at no whole tick
+-- P3, where (4, 2) is lowest at one half and at no whole tick,
 abbrev pub p3-raw : List ℕ
 p3-raw = 10 ∷ 0 ∷ 4 ∷ 2 ∷ 0 ∷ 5 ∷ []
 
+-- and its only outcome
 pub p3-outcome : OnlyAnswer (normalising p3-raw) (10 ∷ 0 ∷ 4 ∷ 2 ∷ 0 ∷ 5 ∷ []) 3
 unfolding normal buckets flat
 p3-outcome = only-normalise p3-raw (omega arith) (omega arith)
 
--- P4: C plus {(4,0),(2,2)}
+-- the only outcome of P4: C plus {(4,0),(2,2)}
 pub p4-outcome :
     OnlyAnswer (summing (10 ∷ 2 ∷ 3 ∷ 20 ∷ []) (4 ∷ 0 ∷ 2 ∷ 2 ∷ [])) (14 ∷ 2 ∷ 12 ∷ 4 ∷ 5 ∷ 22 ∷ []) 3
 unfolding summing normal buckets flat pairs isNormal
@@ -387,7 +434,7 @@ p4-outcome =
     (normal-is _ (lit≤ tt))
     (omega arith)
 
--- shape {(3,20)} by 10
+-- the only outcome of shaping {(3,20)} by 10
 pub shape-outcome : OnlyAnswer (shaping (3 ∷ 20 ∷ []) 10) (10 ∷ 0 ∷ 3 ∷ 20 ∷ []) 2
 unfolding shaping normal buckets flat isNormal
 shape-outcome =

@@ -2,21 +2,21 @@
 -- value(t+u) minus what is served by u; the backlog is that at tick 0; and the computed curve and number are they.
 -- Assumes nothing.
 use mathlib.Core.Path.{_≡_, refl, sym, _∙_, ap}
-use mathlib.Core.Logic.{_⊎_, inl, inr}
-use mathlib.Core.List.{List, List·Memᴰ·head, Memᴰ·append-right}
-use Prim.Native.Nat.{ℕ, _+_, _-_, _*_, _≤_, _<_, min}
-use native.Mathlib.Nat.{le-of-lt, le-refl, le-dest, mul-one, add-assoc, zero-add, mul-le-mul-left, mul-le-mul-right}
+use mathlib.Core.Logic.{inl, inr}
+use mathlib.Core.List.{List}
+use Prim.Native.Nat.{ℕ, _+_, _-_, _*_, _≤_, min}
+use native.Mathlib.Nat.{le-of-lt, le-refl, mul-one, add-assoc, zero-add, mul-le-mul-left, mul-le-mul-right}
 use native.Mathlib.Omega.{arith}
 use lib.ListN.{length}
 use Rattle.meaning.specs.Curve.{Bucket, bucketAt, valueAt, tickValue, NormalForm}
-use Rattle.meaning.specs.Server.{Server, served, reads, GreatestGap, Excess, slower, Behind, Backlog, last}
+use Rattle.meaning.specs.Server.{Server, served, reads, GreatestGap, Excess, Behind, Backlog, last}
 use Rattle.meaning.specs.Computed.{excess, behind, backlog}
 use Rattle.meaning.proofs.Order.{le-or-lt}
 use Rattle.meaning.proofs.Value.{value-least, some}
 use Rattle.meaning.proofs.Joining.{served-past}
 use Rattle.meaning.proofs.Normal.{normal-is}
-use Rattle.meaning.proofs.Cut.{cutAt, CutReached, by-line, by-slow, cut-reached, cut-early, cut-late, behind-cut}
-use Rattle.meaning.proofs.Excess.{gap-unique, excess-is}
+use Rattle.meaning.proofs.Cut.{cut-filled, cutAt, by-line, by-slow, cut-reached, cut-early, cut-late, behind-cut}
+use Rattle.meaning.proofs.Excess.{excess-is}
 
 -- a line of rate r at most R is at t+u at most R·y above what it is at t+T, where y is at least u-T
 line-on :
@@ -32,14 +32,13 @@ module _ (f : List Bucket) (s : Server) (m : ℕ) (e : Excess f (s .rate) m) (t 
   -- the line, or the bucket of rate at most R, that has the cut's value is not below the curve, and rises no faster than R
   cut-over : (u : ℕ) → reads f (t + u) ≤ served s u + cutLater f s m t
   unfolding served reads bucketAt
-  cut-over u = from (cut-reached (s .rate) m (t + s .latency) 1 f)
-    where
-      from :
-          CutReached f (s .rate) m (t + s .latency) 1 → valueAt f (t + u) 1 ≤ s .rate * (u - s .latency) + cutLater f s m t
-      from (by-line c) =
-          omega (arith, e .greatest (t + u), line-on m t u (s .latency) (u - s .latency) (le-refl (s .rate)) (omega arith))
-      from (by-slow k n slow c) =
-          omega (arith, value-least f (t + u) 1 n, line-on (k .burst * 1) t u (s .latency) (u - s .latency) slow (omega arith))
+  cut-over u =
+      elim (cut-reached (s .rate) m (t + s .latency) 1 f) [
+        | by-line c ↦
+            omega (arith, e .greatest (t + u), line-on m t u (s .latency) (u - s .latency) (le-refl (s .rate)) (omega arith))
+        | by-slow k n slow c ↦
+            omega (arith, value-least f (t + u) 1 n, line-on (k .burst * 1) t u (s .latency) (u - s .latency) slow (omega arith))
+      ]
 
   -- where M is reached y after t+T, the curve is as much above it at T+y,
   cut-at-excess :
@@ -67,16 +66,13 @@ module _ (f : List Bucket) (s : Server) (m : ℕ) (e : Excess f (s .rate) m) (t 
 
   -- so it is the greatest difference
   pub cut-gap : 1 ≤ length f → GreatestGap (λ u. reads f (t + u)) (served s) (cutAt f (s .rate) m (t + s .latency) 1)
-  cut-gap has = split (le-or-lt (t + s .latency) (e .at))
-    where
-      from : (y : ℕ) × (t + s .latency + y ≡ e .at) → GreatestGap (λ u. reads f (t + u)) (served s) (cutLater f s m t)
-      from (y, sum) = record { at = s .latency + y; reached = cut-at-excess y sum; greatest = cut-over }
-
-      split :
-          (t + s .latency ≤ e .at) ⊎ (e .at < t + s .latency)
-          → GreatestGap (λ u. reads f (t + u)) (served s) (cutLater f s m t)
-      split (inl h) = from (le-dest h)
-      split (inr h) = record { at = s .latency; reached = cut-at-latency has (le-of-lt h); greatest = cut-over }
+  cut-gap has =
+      elim (le-or-lt (t + s .latency) (e .at)) [
+        | inl h ↦
+            let y = e .at - (t + s .latency) in
+            record { at = s .latency + y; reached = cut-at-excess y (omega arith); greatest = cut-over }
+        | inr h ↦ record { at = s .latency; reached = cut-at-latency has (le-of-lt h); greatest = cut-over }
+      ]
 
 -- at every whole t the value behind is the greatest over whole u of value(t+u) minus what is served by u
 pub behind-greatest :
@@ -96,14 +92,10 @@ behind-is f s n slow =
     record {
       m = excess f (s .rate);
       excess = excess-is (s .rate) n slow;
-      normal = normal-is _ (some (Memᴰ·append-right (slower s f) (List·Memᴰ·head refl)));
+      normal = normal-is _ (cut-filled f s _);
     }
 
 -- the computed number is the backlog
 pub backlog-is : (f : List Bucket) (s : Server) → NormalForm f → last f .rate ≤ s .rate → Backlog f s (backlog f s)
 unfolding backlog
 backlog-is f s n slow = backlog-behind (n .some) (behind-is f s n slow)
-
--- one number is the backlog
-pub backlog-unique : (f : List Bucket) (s : Server) {n n' : ℕ} → Backlog f s n → Backlog f s n' → n ≡ n'
-backlog-unique f s a b = gap-unique a b

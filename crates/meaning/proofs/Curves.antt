@@ -2,7 +2,7 @@
 -- of its operands, for a value depends on which buckets a list has and on nothing else.
 -- Assumes nothing.
 use mathlib.Core.Path.{_≡_, refl, sym, _∙_, ap}
-use mathlib.Core.Logic.{_⊎_, inl, inr}
+use mathlib.Core.Logic.{inl, inr}
 use mathlib.Core.List.{List, [], _∷_, _++_, map, List·Memᴰ·head, List·Memᴰ·tail, List·Memᴰ·not-nil, List·Memᴰ·append-cases, Memᴰ·append-left, Memᴰ·append-right, Memᴰ·map, Memᴰ·of-map, Memᴰ·cast}
 use Prim.Native.Nat.{ℕ, _+_, _*_, _≤_, _<_, min}
 use native.Mathlib.Nat.{le-antisymm}
@@ -10,6 +10,7 @@ use native.Mathlib.Omega.{arith}
 use lib.ListN.{length, length-append, length-map}
 use Rattle.meaning.specs.Curve.{Bucket, _∈_, bucketAt, valueAt, NormalOf, Lower, added, pairs, Sum}
 use Rattle.meaning.proofs.Order.{min-is}
+use Rattle.meaning.proofs.Lists.{append-each}
 use Rattle.meaning.proofs.Value.{same-bucket-at, value-least, value-reached, value-unique, below-value}
 use Rattle.meaning.proofs.Lowest.{same-bucket}
 
@@ -32,24 +33,18 @@ same-buckets-value (k ∷ f) (j ∷ g) to back p q =
 pub value-both :
     (f g : List Bucket) (p q : ℕ) → 1 ≤ length f → 1 ≤ length g
     → valueAt (f ++ g) p q ≡ min (valueAt f p q) (valueAt g p q)
-value-both f g p q hf hg = split (min-is (valueAt f p q) (valueAt g p q))
+value-both f g p q hf hg =
+    elim (min-is (valueAt f p q) (valueAt g p q)) [
+      | inl e ↦
+          let r = value-reached f p q hf in
+          value-unique (f ++ g) p q least (Memᴰ·append-left g (r .inside)) (e ∙ r .value-is)
+      | inr e ↦
+          let r = value-reached g p q hg in
+          value-unique (f ++ g) p q least (Memᴰ·append-right f (r .inside)) (e ∙ r .value-is)
+    ]
   where
     least : (k : Bucket) → k ∈ (f ++ g) → min (valueAt f p q) (valueAt g p q) ≤ bucketAt k p q
-    least k m = side (List·Memᴰ·append-cases f m)
-      where
-        side : (k ∈ f) ⊎ (k ∈ g) → min (valueAt f p q) (valueAt g p q) ≤ bucketAt k p q
-        side (inl n) = omega (arith, value-least f p q n)
-        side (inr n) = omega (arith, value-least g p q n)
-
-    split :
-        (min (valueAt f p q) (valueAt g p q) ≡ valueAt f p q) ⊎ (min (valueAt f p q) (valueAt g p q) ≡ valueAt g p q)
-        → valueAt (f ++ g) p q ≡ min (valueAt f p q) (valueAt g p q)
-    split (inl e) =
-        let r = value-reached f p q hf in
-        value-unique (f ++ g) p q least (Memᴰ·append-left g (r .inside)) (e ∙ r .value-is)
-    split (inr e) =
-        let r = value-reached g p q hg in
-        value-unique (f ++ g) p q least (Memᴰ·append-right f (r .inside)) (e ∙ r .value-is)
+    least = append-each {l = f} (λ k n. omega (arith, value-least f p q n)) (λ k n. omega (arith, value-least g p q n))
 
 -- the value of an added bucket
 pub added-at : (k j : Bucket) (p q : ℕ) → bucketAt (added k j) p q ≡ bucketAt k p q + bucketAt j p q
@@ -80,31 +75,21 @@ pub record PairOf (f g : List Bucket) (k : Bucket) : Type 0 where
 pub pairs-from : (f g : List Bucket) {k : Bucket} → k ∈ pairs f g → PairOf f g k
 unfolding pairs
 pairs-from [] g m = absurd (List·Memᴰ·not-nil m)
-pairs-from (i ∷ f) g {k} m = split (λ n. pairs-from f g n) (List·Memᴰ·append-cases (map (added i) g) m)
-  where
-    first : (j : Bucket) × (j ∈ g) × (added i j ≡ k) → PairOf (i ∷ f) g k
-    first t =
-        record {
-          left = i;
-          right = t .0;
-          left-inside = List·Memᴰ·head refl;
-          right-inside = t .1;
-          pair-is = sym (t .2);
-        }
-
-    later : PairOf f g k → PairOf (i ∷ f) g k
-    later r =
-        record {
-          left = r .left;
-          right = r .right;
-          left-inside = List·Memᴰ·tail (r .left-inside);
-          right-inside = r .right-inside;
-          pair-is = r .pair-is;
-        }
-
-    split : (k ∈ pairs f g → PairOf f g k) → (k ∈ map (added i) g) ⊎ (k ∈ pairs f g) → PairOf (i ∷ f) g k
-    split rest (inl n) = first (Memᴰ·of-map (added i) g n)
-    split rest (inr n) = later (rest n)
+pairs-from (i ∷ f) g m =
+    elim (List·Memᴰ·append-cases (map (added i) g) m) [
+      | inl n ↦
+          let t = Memᴰ·of-map (added i) g n in
+          record { left = i; right = t .0; left-inside = List·Memᴰ·head refl; right-inside = t .1; pair-is = sym (t .2) }
+      | inr n ↦
+          let r = pairs-from f g n in
+          record {
+            left = r .left;
+            right = r .right;
+            left-inside = List·Memᴰ·tail (r .left-inside);
+            right-inside = r .right-inside;
+            pair-is = r .pair-is;
+          }
+    ]
 
 -- the pairs either way round
 pub pairs-order : (f g : List Bucket) {k : Bucket} → k ∈ pairs f g → k ∈ pairs g f
@@ -144,11 +129,8 @@ same-buckets-normal {f} {g} to back n =
 
 -- two lists together, either way round
 pub both-order : (f g : List Bucket) {k : Bucket} → k ∈ (f ++ g) → k ∈ (g ++ f)
-both-order f g {k} m = split (List·Memᴰ·append-cases f m)
-  where
-    split : (k ∈ f) ⊎ (k ∈ g) → k ∈ (g ++ f)
-    split (inl n) = Memᴰ·append-right g n
-    split (inr n) = Memᴰ·append-left f n
+both-order f g m =
+    elim (List·Memᴰ·append-cases f m) [ inl n ↦ Memᴰ·append-right g n | inr n ↦ Memᴰ·append-left f n ]
 
 module _ (f g : List Bucket) {h : List Bucket} where
   -- lower is the minimum of the two
@@ -163,9 +145,10 @@ module _ (f g : List Bucket) {h : List Bucket} where
       → valueAt h p q ≡ valueAt f p q + valueAt g p q
   sum-value hf hg s p q hq = sym (s .same p q hq) ∙ value-pairs f g p q hf hg
 
-  -- neither depends on the order of the two
+  -- lower does not depend on the order of the two,
   pub lower-order : Lower f g h → Lower g f h
   lower-order l = same-buckets-normal (λ k m. both-order f g m) (λ k m. both-order g f m) l
 
+  -- nor does sum
   pub sum-order : Sum f g h → Sum g f h
   sum-order s = same-buckets-normal (λ k m. pairs-order f g m) (λ k m. pairs-order g f m) s

@@ -4,18 +4,20 @@
 -- Assumes nothing.
 use mathlib.Core.Path.{_≡_, refl, sym, _∙_, ap}
 use mathlib.Core.Bool.{Bool, true, false}
-use mathlib.Core.Logic.{_⊎_, inl, inr}
+use mathlib.Core.Logic.{inl, inr}
 use mathlib.Core.List.{List, [], _∷_, _++_, List·Memᴰ·head, List·Memᴰ·tail, List·Memᴰ·cases-cons, List·Memᴰ·append-cases, List·Memᴰ·eq-of-singleton, Memᴰ·append-left, Memᴰ·append-right}
 use Prim.Native.Nat.{ℕ, _*_, _+_, _≤_, _<_, min}
-use native.Mathlib.Nat.{le-trans, le-of-eq, le-of-lt, le-refl, le-dest, min-le-left, min-le-right, le-min, le-antisymm, mul-le-mul-left, mul-le-mul-right}
+use native.Mathlib.Nat.{le-trans, le-of-eq, le-of-lt, min-le-left, min-le-right, le-min, le-antisymm, mul-le-mul-left}
 use native.Mathlib.Omega.{arith}
 use lib.ListN.{length}
 use lib.Dec.{leb}
 use borrow.Author.Tests.{leb-true, le-leb}
 use Rattle.meaning.specs.Curve.{Bucket, _∈_, bucketAt, valueAt}
 use Rattle.meaning.specs.Server.{Server, later, addedIf, slower, reads, Behind}
-use Rattle.meaning.proofs.Order.{le-or-lt, min-is}
-use Rattle.meaning.proofs.Value.{same-bucket-at, value-least, below-value, value-unique}
+use Rattle.meaning.proofs.Order.{le-or-lt, crosswise}
+use Rattle.meaning.proofs.Value.{some, same-bucket-at, value-least, value-reached, below-value, value-unique}
+
+-- ---- The raw list of behind.
 
 -- a bucket seen a latency later has the value that it had a latency before
 pub later-at : (latency : ℕ) (k : Bucket) (p q : ℕ) → bucketAt (later latency k) p q ≡ bucketAt k (p + latency * q) q
@@ -37,129 +39,109 @@ slower-has s {k = k} (List·Memᴰ·tail {x = j} {xs = f} m) h = wanted-or-not (
     wanted-or-not true n = List·Memᴰ·tail n
     wanted-or-not false n = n
 
--- and nothing else
+-- A bucket seen a latency later, of a list's slow enough ones.
 pub record Slowed (s : Server) (f : List Bucket) (k : Bucket) : Type 0 where
   pub bucket : Bucket
   pub inside : bucket ∈ f
   pub slow : bucket .rate ≤ s .rate
   pub is-later : k ≡ later (s .latency) bucket
 
+-- and nothing else
 pub slower-from : (s : Server) (f : List Bucket) {k : Bucket} → k ∈ slower s f → Slowed s f k
 unfolding slower addedIf
 slower-from s [] m = elim m [ ]
-slower-from s (j ∷ f) {k} m = wanted-or-not (leb (j .rate) (s .rate)) refl (λ n. slower-from s f n) m
+slower-from s (j ∷ f) {k} m = wanted-or-not (leb (j .rate) (s .rate)) refl (λ n. further (slower-from s f n)) m
   where
     further : Slowed s f k → Slowed s (j ∷ f) k
     further r = record { bucket = r .bucket; inside = List·Memᴰ·tail (r .inside); slow = r .slow; is-later = r .is-later }
 
-    wanted :
-        leb (j .rate) (s .rate) ≡ true → (k ∈ slower s f → Slowed s f k) → (k ≡ later (s .latency) j) ⊎ (k ∈ slower s f) → Slowed s (j ∷ f) k
-    wanted t rest (inl e) = record { bucket = j; inside = List·Memᴰ·head refl; slow = leb-true _ _ t; is-later = e }
-    wanted t rest (inr n) = further (rest n)
-
     wanted-or-not :
-        (b : Bool) → leb (j .rate) (s .rate) ≡ b → (k ∈ slower s f → Slowed s f k) → k ∈ addedIf b (later (s .latency) j) (slower s f)
-        → Slowed s (j ∷ f) k
-    wanted-or-not true t rest n = wanted t rest (List·Memᴰ·cases-cons n)
-    wanted-or-not false t rest n = further (rest n)
+        (b : Bool) → leb (j .rate) (s .rate) ≡ b → (k ∈ slower s f → Slowed s (j ∷ f) k)
+        → k ∈ addedIf b (later (s .latency) j) (slower s f) → Slowed s (j ∷ f) k
+    wanted-or-not true t rest n =
+        elim (List·Memᴰ·cases-cons n) [
+          | inl e ↦ record { bucket = j; inside = List·Memᴰ·head refl; slow = leb-true _ _ t; is-later = e }
+          | inr i ↦ rest i
+        ]
+    wanted-or-not false t rest n = rest n
 
--- The smaller of two numbers if the first is wanted, otherwise the second.
-unfoldable pub leastIf : Bool → ℕ → ℕ → ℕ
-leastIf true a b = min a b
-leastIf false a b = b
-
--- The cut at p/q, times q: the least of rate·p + m·q and of the values of the buckets with rates up to `rate`.
-unfoldable pub cutAt : List Bucket → ℕ → ℕ → ℕ → ℕ → ℕ
-unfolding leastIf
-cutAt [] rate m p q = rate * p + m * q
-cutAt (k ∷ f) rate m p q = leastIf (leb (k .rate) rate) (bucketAt k p q) (cutAt f rate m p q)
-
--- what the cut is at a time: the line's value or a slow bucket's
-pub data CutReached (f : List Bucket) (rate m p q : ℕ) : Type 0 where
-  by-line : cutAt f rate m p q ≡ rate * p + m * q → CutReached f rate m p q
-  by-slow : (k : Bucket) → k ∈ f → k .rate ≤ rate → cutAt f rate m p q ≡ bucketAt k p q → CutReached f rate m p q
-
--- that least is not above the second number, and is one of the two
-least-second : (b : Bool) (x y : ℕ) → leastIf b x y ≤ y
-unfolding leastIf
-least-second true x y = min-le-right x y
-least-second false x y = le-refl y
-
-least-is : (b : Bool) (x y : ℕ) → ((b ≡ true) × (leastIf b x y ≡ x)) ⊎ (leastIf b x y ≡ y)
-unfolding leastIf
-least-is true x y = split (min-is x y)
-  where
-    split : (min x y ≡ x) ⊎ (min x y ≡ y) → (((true ≡ true) × (min x y ≡ x)) ⊎ (min x y ≡ y))
-    split (inl e) = inl (refl, e)
-    split (inr e) = inr e
-least-is false x y = inr refl
-
-module _ (rate m p q : ℕ) where
-  -- the line is not below the cut
-  pub cut-line : (f : List Bucket) → cutAt f rate m p q ≤ rate * p + m * q
-  unfolding cutAt
-  cut-line [] = le-refl _
-  cut-line (k ∷ f) = le-trans (least-second (leb (k .rate) rate) _ _) (cut-line f)
-
-  -- and no slow bucket is
-  pub cut-slow : {f : List Bucket} {k : Bucket} → k ∈ f → k .rate ≤ rate → cutAt f rate m p q ≤ bucketAt k p q
-  unfolding cutAt leastIf
-  cut-slow {k = k} (List·Memᴰ·head {x = j} e) h =
-      rw (le-leb (j .rate) rate (same-rate-below e h)) (le-trans (min-le-left _ _) (le-of-eq (sym (same-bucket-at p q e))))
-  cut-slow (List·Memᴰ·tail {x = j} n) h = le-trans (least-second (leb (j .rate) rate) _ _) (cut-slow n h)
-
-  -- one of them has it
-  pub cut-reached : (f : List Bucket) → CutReached f rate m p q
-  unfolding cutAt
-  cut-reached [] = by-line refl
-  cut-reached (k ∷ f) = split (cut-reached f) (least-is (leb (k .rate) rate) (bucketAt k p q) (cutAt f rate m p q))
-    where
-      further :
-          leastIf (leb (k .rate) rate) (bucketAt k p q) (cutAt f rate m p q) ≡ cutAt f rate m p q → CutReached f rate m p q → CutReached (k ∷ f) rate m p q
-      further e (by-line r) = by-line (e ∙ r)
-      further e (by-slow j n h r) = by-slow j (List·Memᴰ·tail n) h (e ∙ r)
-
-      split :
-          CutReached f rate m p q
-          → ((leb (k .rate) rate ≡ true) × (leastIf (leb (k .rate) rate) (bucketAt k p q) (cutAt f rate m p q) ≡ bucketAt k p q))
-          ⊎ (leastIf (leb (k .rate) rate) (bucketAt k p q) (cutAt f rate m p q) ≡ cutAt f rate m p q)
-          → CutReached (k ∷ f) rate m p q
-      split rest (inl (t, e)) = by-slow k (List·Memᴰ·head refl) (leb-true _ _ t) e
-      split rest (inr e) = further e rest
-
--- (R, B), B = R·T + M, and the raw list of behind.
+-- (R, B), B = R·T + M.
 abbrev pub lineBucket : Server → ℕ → Bucket
 lineBucket s m = record { rate = s .rate; burst = s .rate * s .latency + m }
 
+-- The raw list of behind.
 abbrev pub cutList : List Bucket → Server → ℕ → List Bucket
 cutList f s m = slower s f ++ lineBucket s m ∷ []
+
+-- it has a bucket, (R, B) at least
+pub cut-filled : (f : List Bucket) (s : Server) (m : ℕ) → 1 ≤ length (cutList f s m)
+cut-filled f s m = some (Memᴰ·append-right (slower s f) (List·Memᴰ·head refl))
 
 -- (R, B) has, a latency before, the line's value
 line-at : (s : Server) (m p q : ℕ) → bucketAt (lineBucket s m) p q ≡ s .rate * (p + s .latency * q) + m * q
 unfolding bucketAt
 line-at s m p q = omega arith
 
-module _ (f : List Bucket) (s : Server) (m p q : ℕ) where
-  -- no bucket of the raw list is below the cut
-  cut-below : (k : Bucket) → k ∈ cutList f s m → cutAt f (s .rate) m (p + s .latency * q) q ≤ bucketAt k p q
-  cut-below k n = split (List·Memᴰ·append-cases (slower s f) n)
-    where
-      slow : Slowed s f k → cutAt f (s .rate) m (p + s .latency * q) q ≤ bucketAt k p q
-      slow r = le-trans (cut-slow _ _ _ _ (r .inside) (r .slow)) (le-of-eq (sym (same-bucket-at p q (r .is-later) ∙ later-at _ _ _ _)))
+-- ---- The cut.
 
-      split : (k ∈ slower s f) ⊎ (k ∈ (lineBucket s m ∷ [])) → cutAt f (s .rate) m (p + s .latency * q) q ≤ bucketAt k p q
-      split (inl i) = slow (slower-from s f i)
-      split (inr i) = le-trans (cut-line _ _ _ _ f) (le-of-eq (sym (same-bucket-at p q (List·Memᴰ·eq-of-singleton i) ∙ line-at s m p q)))
+-- A server with no latency.
+abbrev atOnce : ℕ → Server
+atOnce rate = record { rate = rate; latency = 0 }
 
-  -- the raw list's value is the cut's, a latency later
-  pub cut-list : valueAt (cutList f s m) p q ≡ cutAt f (s .rate) m (p + s .latency * q) q
-  cut-list = reached (cut-reached (s .rate) m (p + s .latency * q) q f)
-    where
-      reached : CutReached f (s .rate) m (p + s .latency * q) q → valueAt (cutList f s m) p q ≡ cutAt f (s .rate) m (p + s .latency * q) q
-      reached (by-line e) =
-          value-unique (cutList f s m) p q cut-below (Memᴰ·append-right (slower s f) (List·Memᴰ·head refl)) (e ∙ sym (line-at s m p q))
-      reached (by-slow k n h e) =
-          value-unique (cutList f s m) p q cut-below (Memᴰ·append-left _ (slower-has s n h)) (e ∙ sym (later-at _ _ _ _))
+-- The cut at p/q, times q: the least of rate·p + m·q and of the values of the buckets with rates up to `rate`. That is the value
+-- of the raw list of behind with no latency.
+unfoldable pub cutAt : List Bucket → ℕ → ℕ → ℕ → ℕ → ℕ
+cutAt f rate m p q = valueAt (cutList f (atOnce rate) m) p q
+
+-- What the cut is at a time: the line's value or a slow bucket's.
+pub data CutReached (f : List Bucket) (rate m p q : ℕ) : Type 0 where
+  by-line : cutAt f rate m p q ≡ rate * p + m * q → CutReached f rate m p q
+  by-slow : (k : Bucket) → k ∈ f → k .rate ≤ rate → cutAt f rate m p q ≡ bucketAt k p q → CutReached f rate m p q
+
+module _ (rate m p q : ℕ) where
+  -- the line is not below the cut
+  pub cut-line : (f : List Bucket) → cutAt f rate m p q ≤ rate * p + m * q
+  unfolding cutAt bucketAt
+  cut-line f = omega (arith, value-least (cutList f (atOnce rate) m) p q (Memᴰ·append-right (slower (atOnce rate) f) (List·Memᴰ·head refl)))
+
+  -- and no slow bucket is
+  pub cut-slow : {f : List Bucket} {k : Bucket} → k ∈ f → k .rate ≤ rate → cutAt f rate m p q ≤ bucketAt k p q
+  unfolding cutAt bucketAt later
+  cut-slow {f} n h = omega (arith, value-least (cutList f (atOnce rate) m) p q (Memᴰ·append-left _ (slower-has (atOnce rate) n h)))
+
+  -- one of them has it
+  pub cut-reached : (f : List Bucket) → CutReached f rate m p q
+  unfolding cutAt bucketAt later
+  cut-reached f =
+      let s = atOnce rate in
+      let r = value-reached (cutList f s m) p q (cut-filled f s m) in
+      elim (List·Memᴰ·append-cases (slower s f) (r .inside)) [
+        | inl i ↦
+            let k = slower-from s f i in
+            by-slow (k .bucket) (k .inside) (k .slow) (omega (arith, r .value-is, same-bucket-at p q (k .is-later)))
+        | inr i ↦ by-line (omega (arith, r .value-is, same-bucket-at p q (List·Memᴰ·eq-of-singleton i)))
+      ]
+
+-- the raw list's value is the cut's, a latency later
+pub cut-list : (f : List Bucket) (s : Server) (m p q : ℕ) → valueAt (cutList f s m) p q ≡ cutAt f (s .rate) m (p + s .latency * q) q
+cut-list f s m p q =
+    elim (cut-reached (s .rate) m (p + s .latency * q) q f) [
+      | by-line e ↦
+          value-unique (cutList f s m) p q below (Memᴰ·append-right (slower s f) (List·Memᴰ·head refl)) (e ∙ sym (line-at s m p q))
+      | by-slow k n h e ↦
+          value-unique (cutList f s m) p q below (Memᴰ·append-left _ (slower-has s n h)) (e ∙ sym (later-at _ _ _ _))
+    ]
+  where
+    below : (k : Bucket) → k ∈ cutList f s m → cutAt f (s .rate) m (p + s .latency * q) q ≤ bucketAt k p q
+    below k n =
+        elim (List·Memᴰ·append-cases (slower s f) n) [
+          | inl i ↦
+              let r = slower-from s f i in
+              le-trans (cut-slow _ _ _ _ (r .inside) (r .slow))
+              (le-of-eq (sym (same-bucket-at p q (r .is-later) ∙ later-at _ _ _ _)))
+          | inr i ↦
+              le-trans (cut-line _ _ _ _ f) (le-of-eq (sym (same-bucket-at p q (List·Memᴰ·eq-of-singleton i) ∙ line-at s m p q)))
+        ]
 
 -- a curve behind a server is the cut, a latency later
 pub behind-cut :
@@ -167,23 +149,19 @@ pub behind-cut :
     → valueAt g p q ≡ cutAt f (s .rate) (b .m) (p + s .latency * q) q
 behind-cut {f} {g} {s} b p q h = sym (b .normal .same p q h) ∙ cut-list f s (b .m) p q
 
+-- ---- The cut by a line that meets the curve.
+
 -- A line rate·t + m that is not above a bucket at whole tick s:
 module _ (k : Bucket) (rate m s : ℕ) (above : rate * s + m ≤ bucketAt k s 1) (p q : ℕ) where
   -- if the bucket is the flatter of the two, neither is the line above it before s,
   pub flatter-before : k .rate ≤ rate → p ≤ s * q → rate * p + m * q ≤ bucketAt k p q
   unfolding bucketAt
-  flatter-before flat h = back (le-dest h)
-    where
-      back : (e : ℕ) × (p + e ≡ s * q) → rate * p + m * q ≤ k .rate * p + k .burst * q
-      back (e, sum) = omega (arith, mul-le-mul-left q above, mul-le-mul-right e flat, ap (λ x. k .rate * x) sum, ap (λ x. rate * x) sum)
+  flatter-before flat h = omega (arith, mul-le-mul-left q above, crosswise flat h)
 
   -- and if the bucket is the steeper, neither after s
   pub steeper-after : rate ≤ k .rate → s * q ≤ p → rate * p + m * q ≤ bucketAt k p q
   unfolding bucketAt
-  steeper-after steep h = on (le-dest h)
-    where
-      on : (e : ℕ) × (s * q + e ≡ p) → rate * p + m * q ≤ k .rate * p + k .burst * q
-      on (e, sum) = omega (arith, mul-le-mul-left q above, mul-le-mul-right e steep, ap (λ x. k .rate * x) sum, ap (λ x. rate * x) sum)
+  steeper-after steep h = omega (arith, mul-le-mul-left q above, crosswise steep h)
 
 -- The line meets the curve at whole tick s.
 module _ (f : List Bucket) (rate m s : ℕ) (meets : reads f s ≡ rate * s + m) where
@@ -194,24 +172,25 @@ module _ (f : List Bucket) (rate m s : ℕ) (meets : reads f s ≡ rate * s + m)
 
   -- up to s the cut is the line
   pub cut-early : (p q : ℕ) → p ≤ s * q → cutAt f rate m p q ≡ rate * p + m * q
-  cut-early p q h = reached (cut-reached rate m p q f)
-    where
-      reached : CutReached f rate m p q → cutAt f rate m p q ≡ rate * p + m * q
-      reached (by-line e) = e
-      reached (by-slow k n slow e) =
-          le-antisymm (cut-line rate m p q f) (le-trans (flatter-before k rate m s (not-below n) p q slow h) (le-of-eq (sym e)))
+  cut-early p q h =
+      elim (cut-reached rate m p q f) [
+        | by-line e ↦ e
+        | by-slow k n slow e ↦
+            le-antisymm (cut-line rate m p q f) (le-trans (flatter-before k rate m s (not-below n) p q slow h) (le-of-eq (sym e)))
+      ]
 
   -- from s on it is the smaller of curve and line
   pub cut-late : 1 ≤ length f → (p q : ℕ) → s * q ≤ p → cutAt f rate m p q ≡ min (valueAt f p q) (rate * p + m * q)
-  cut-late some p q h = le-antisymm (le-min (below-value f p q below some) (cut-line rate m p q f)) (reached (cut-reached rate m p q f))
+  cut-late some p q h =
+      le-antisymm (le-min (below-value f p q below some) (cut-line rate m p q f))
+      (elim (cut-reached rate m p q f) [
+        | by-line e ↦ le-trans (min-le-right _ _) (le-of-eq (sym e))
+        | by-slow k n slow e ↦ le-trans (min-le-left _ _) (le-trans (value-least f p q n) (le-of-eq (sym e)))
+      ])
     where
       below : (k : Bucket) → k ∈ f → cutAt f rate m p q ≤ bucketAt k p q
-      below k n = split (le-or-lt (k .rate) rate)
-        where
-          split : (k .rate ≤ rate) ⊎ (rate < k .rate) → cutAt f rate m p q ≤ bucketAt k p q
-          split (inl slow) = cut-slow rate m p q n slow
-          split (inr fast) = le-trans (cut-line rate m p q f) (steeper-after k rate m s (not-below n) p q (le-of-lt fast) h)
-
-      reached : CutReached f rate m p q → min (valueAt f p q) (rate * p + m * q) ≤ cutAt f rate m p q
-      reached (by-line e) = le-trans (min-le-right _ _) (le-of-eq (sym e))
-      reached (by-slow k n slow e) = le-trans (min-le-left _ _) (le-trans (value-least f p q n) (le-of-eq (sym e)))
+      below k n =
+          elim (le-or-lt (k .rate) rate) [
+            | inl slow ↦ cut-slow rate m p q n slow
+            | inr fast ↦ le-trans (cut-line rate m p q f) (steeper-after k rate m s (not-below n) p q (le-of-lt fast) h)
+          ]

@@ -5,7 +5,7 @@
 use mathlib.Core.Path.{_≡_, ap}
 use mathlib.Core.List.{List}
 use Prim.Native.Nat.{ℕ, _+_, _-_, _*_, _≤_}
-use native.Mathlib.Nat.{le-dest, lt-of-mul-lt-mul-left}
+use native.Mathlib.Nat.{lt-of-mul-lt-mul-left}
 use native.Mathlib.Decide.{ℕ-discrete}
 use native.Mathlib.Omega.{arith}
 use lib.ListN.{length}
@@ -13,19 +13,17 @@ use borrow.Author.Tests.{eq-eqb, ne-eqb}
 use Rattle.meaning.specs.Curve.{Bucket, bucketAt, tickValue, NormalForm}
 use Rattle.meaning.specs.Server.{Server, served, reads, Smallest, Excess, Delay, last}
 use Rattle.meaning.specs.Computed.{pick, delay}
-use Rattle.meaning.proofs.Value.{value-least, Reached, value-reached}
-use Rattle.meaning.proofs.Joining.{served-past, smallest-unique, rounded-up-is}
+use Rattle.meaning.proofs.Value.{value-least, value-reached}
+use Rattle.meaning.proofs.Joining.{served-past, rounded-up-is}
 use Rattle.meaning.proofs.Excess.{excess-is}
 
 -- a curve that carries nothing by tick 1 carries nothing by any tick
 carries-nothing : (f : List Bucket) → 1 ≤ length f → reads f 1 ≡ 0 → (t : ℕ) → reads f t ≡ 0
 unfolding reads bucketAt
-carries-nothing f some none t = from (value-reached f 1 1 some)
-  where
-    from : Reached f 1 1 → tickValue f t ≡ 0
-    from r =
-        let idle : r .bucket .rate ≡ 0 = omega (arith, r .value-is) in
-        omega (arith, r .value-is, value-least f t 1 (r .inside), ap (λ x. x * t) idle)
+carries-nothing f some none t =
+    let r = value-reached f 1 1 some in
+    let idle : r .bucket .rate ≡ 0 = omega (arith, r .value-is) in
+    omega (arith, r .value-is, value-least f t 1 (r .inside), ap (λ x. x * t) idle)
 
 -- so it has no delay
 pub delay-of-nothing : (f : List Bucket) (s : Server) → 1 ≤ length f → reads f 1 ≡ 0 → Delay f s 0
@@ -57,22 +55,18 @@ module _
     delay-from-excess some = record { suffices = λ t. omega (arith, suffice t); smallest = smallest }
       where
         smallest : (d : ℕ) → ((t : ℕ) → reads f t ≤ served s (t + d)) → s .latency + x ≤ d
-        smallest d enough = over (le-dest (latency-needed some d (enough 1)))
-          where
-            over : (y : ℕ) × (s .latency + y ≡ d) → s .latency + x ≤ d
-            over (y, sum) = omega (arith, quotient-needed y (rw sum (enough (e .at))))
+        smallest d enough =
+            let past = latency-needed some d (enough 1) in
+            let sum : s .latency + (d - s .latency) ≡ d = omega arith in
+            omega (arith, quotient-needed (d - s .latency) (rw sum (enough (e .at))))
 
 -- the computed number is the delay
 pub delay-is : {f : List Bucket} (s : Server) → NormalForm f → last f .rate ≤ s .rate → 1 ≤ s .rate → Delay f s (delay f s)
 unfolding delay pick reads
-delay-is {f} s n slow some = split (ℕ-discrete (tickValue f 1) 0)
-  where
-    split : Dec (tickValue f 1 ≡ 0) → Delay f s (delay f s)
-    split (yes e) = rw (eq-eqb (tickValue f 1) 0 e) (delay-of-nothing f s (n .some) e)
-    split (no e) =
-        rw (ne-eqb (tickValue f 1) 0 e)
-        (delay-from-excess f s _ (excess-is (s .rate) n slow) (rounded-up-is _ (s .rate) some) e)
-
--- one number is the delay
-pub delay-unique : (f : List Bucket) (s : Server) {d d' : ℕ} → Delay f s d → Delay f s d' → d ≡ d'
-delay-unique f s a b = smallest-unique a b
+delay-is {f} s n slow some =
+    elim (ℕ-discrete (tickValue f 1) 0) [
+      | yes e ↦ rw (eq-eqb (tickValue f 1) 0 e) (delay-of-nothing f s (n .some) e)
+      | no e ↦
+          rw (ne-eqb (tickValue f 1) 0 e)
+          (delay-from-excess f s _ (excess-is (s .rate) n slow) (rounded-up-is _ (s .rate) some) e)
+    ]

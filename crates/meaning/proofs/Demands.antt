@@ -1,58 +1,33 @@
--- Demands 2 and 3 as theorems about the contracts, over what a caller has in hand: the numbers lent, the codes and figures
--- answered, and the lists afterwards. Each question leaves one outcome. What is answered is what the min-plus definitions give at
--- whole ticks, and an answered list is in normal form and taken wherever a curve is. Two answered hops are one answered step
--- through the joined server, either way round, and its delay is at most the two added. A last rate above the server's is 8.
+-- Demands 2 and 3 as theorems about the contracts over servers, in what a caller has in hand: the numbers lent, the codes and
+-- figures answered, and the lists afterwards. (Those over curves stand in Answers.) Each question leaves one outcome. What is
+-- answered is what the min-plus definitions give at whole ticks, and an answered list is in normal form and taken wherever a
+-- curve is. Two answered hops are one answered step through the joined server, either way round, and its delay is at most the
+-- two added. A last rate above the server's is 8.
 -- Assumes nothing.
 use mathlib.Core.Path.{_≡_, refl, sym, _∙_, ap}
-use mathlib.Core.Logic.{_⊎_, inl, inr}
-use mathlib.Core.Bool.{Bool, true, false}
-use mathlib.Core.List.{List, [], _∷_, _++_, List·Memᴰ·cases-cons}
-use Prim.Native.Nat.{ℕ, suc, _+_, _-_, _*_, _%_, _≤_, _<_, min}
-use native.Mathlib.Nat.{le-refl, le-trans, le-of-lt, mul-le-mul-right}
+use mathlib.Core.Logic.{inl, inr}
+use mathlib.Core.List.{List, []}
+use Prim.Native.Nat.{ℕ, _+_, _-_, _*_, _≤_, _<_}
 use native.Mathlib.Omega.{arith}
-use lib.ListN.{length, take}
+use lib.ListN.{length}
 use lib.Dec.{lit≤}
-use Rattle.meaning.specs.Curve.{Bucket, _∈_, buckets, flat, bucketAt, valueAt, tickValue, Falling, NormalForm, NormalOf, pairs}
-use Rattle.meaning.specs.Server.{Server, served, reads, GreatestGap, Excess, join, Behind, Delay, Residual, last}
-use Rattle.meaning.specs.CurveQuestions.{normalising, lowering, summing, shaping, ValueOutcome}
-use Rattle.meaning.specs.Refusal.{LIST, COUNT, RANGE, FORM, UNBOUNDED, LARGE, ROOM, number, Lines, _when_, _or_, Clear, Verdict, accepted, AllInRange, TooLarge, rawLines, curveLines, over, Answered, Question, allLines, Outcome, part, PartOutcome, FigureOutcome}
+use Rattle.meaning.specs.Curve.{buckets, flat, tickValue, NormalForm}
+use Rattle.meaning.specs.Server.{Server, served, reads, GreatestGap, join, Behind, Delay, Residual, last}
+use Rattle.meaning.specs.Refusal.{RANGE, UNBOUNDED, LARGE, number, Lines, _when_, _or_, Clear, Verdict, accepted, curveLines, over, Outcome, part, PartOutcome, FigureOutcome}
 use Rattle.meaning.specs.ServerQuestions.{ServerInRange, serverLines, portLines, passing, BacklogOutcome, DelayOutcome, ServerOutcome, JoinOutcome, ResidualOutcome}
-use Rattle.meaning.specs.Computed.{isNormal}
-use Rattle.meaning.proofs.Order.{le-or-lt}
-use Rattle.meaning.proofs.Value.{Reached, value-reached}
-use Rattle.meaning.proofs.Unique.{normal-of-unique}
-use Rattle.meaning.proofs.Neighbours.{neighbours-sound, neighbours-refute}
-use Rattle.meaning.proofs.Curves.{lower-value, sum-value}
-use Rattle.meaning.proofs.Excess.{gap-unique}
+use Rattle.meaning.proofs.Order.{not-above}
+use Rattle.meaning.proofs.Stable.{server-stable}
+use Rattle.meaning.proofs.Excess.{gap-unique, excess-bounded}
 use Rattle.meaning.proofs.Behind.{behind-greatest}
-use Rattle.meaning.proofs.Joining.{last-inside, smallest-unique, residual-unique, residual-law, same-server, Convolution, join-convolution}
+use Rattle.meaning.proofs.Joining.{smallest-unique, residual-unique, residual-law, same-server, Convolution, join-convolution}
 use Rattle.meaning.proofs.HopByHop.{hop-by-hop, behind-unique, either-order, joined-delay}
-use Rattle.meaning.proofs.Lists.{buckets-use, flat-length, buckets-flat, over-start}
-use Rattle.meaning.proofs.Outcomes.{number-positive, Same, Single, refused-once, refused-or-clear, one-outcome, one-part-outcome, one-figure, UpTo, from-when, up-to-when, up-to-or, line-hit, clear-or, refused-first, refused-then, refusal, refuse, written-out, no-room}
+use Rattle.meaning.proofs.Lists.{over-start}
+use Rattle.meaning.proofs.Outcomes.{number-positive, Same, Single, refused-once, refused-or-clear, one-figure, UpTo, from-when, up-to-when, up-to-or, line-hit, clear-or, refused-first, refused-then, refusal, refuse, refuse-in-part, written-out, no-room}
+use Rattle.meaning.proofs.Answers.{OneOutcome, one-curve, readBack, AnsweredList, answered-list, answered-length, accepted-again, clear-form, figure-answered, curve-up-to}
 
 -- ---- One outcome for every input.
 
--- (D, 0)
-abbrev linkBucket : ℕ → Bucket
-linkBucket d = record { rate = d; burst = 0 }
-
--- A question that a curve answers leaves one outcome: the code, the count and the full contents of the lent list, or of the
--- table that it is a part of.
-pub record OneOutcome (ask : Question) : Type 0 where
-  pub in-a-list :
-      {before after after′ : List ℕ} {code count code′ count′ : ℕ}
-      → Outcome ask before after code count → Outcome ask before after′ code′ count′
-      → Same code count code′ count′ after after′
-  pub in-a-part :
-      {at room : ℕ} {before after after′ : List ℕ} {code count code′ count′ : ℕ}
-      → PartOutcome ask at room before after code count → PartOutcome ask at room before after′ code′ count′
-      → Same code count code′ count′ after after′
-
--- where one curve answers there is one outcome
-one-curve : (ask : Question) → Single (ask .Answer) → OneOutcome ask
-one-curve ask one = record { in-a-list = one-outcome one; in-a-part = one-part-outcome one }
-
--- No other server: the code and both numbers are fixed.
+-- two outcomes of a question that one server answers have the same code and the same server
 one-server :
     {operands : Lines} {Answer : Server → Type 0} {code code′ : ℕ} {s s′ : Server}
     → Single Answer → ServerOutcome operands Answer code s → ServerOutcome operands Answer code′ s′ → (code ≡ code′) × (s ≡ s′)
@@ -62,35 +37,7 @@ one-server one (ServerOutcome.refused v e) (ServerOutcome.answered clear e′ x)
 one-server one (ServerOutcome.answered clear e x) (ServerOutcome.refused w e′) = absurd (refused-or-clear w clear)
 one-server one (ServerOutcome.answered clear e x) (ServerOutcome.answered clear′ e′ x′) = (e ∙ sym e′, one _ _ x x′)
 
--- one list is the normal form
-pub single-normal : (raw : List Bucket) → Single (NormalOf raw)
-single-normal raw f g x y = normal-of-unique x y
-
--- normalise, lower, sum and shape leave one outcome each,
-pub one-normalise : (raw : List ℕ) → OneOutcome (normalising raw)
-unfolding normalising
-one-normalise raw = one-curve (normalising raw) (single-normal (buckets raw))
-
-pub one-lower : (f g : List ℕ) → OneOutcome (lowering f g)
-unfolding lowering
-one-lower f g = one-curve (lowering f g) (single-normal (buckets f ++ buckets g))
-
-pub one-sum : (f g : List ℕ) → OneOutcome (summing f g)
-unfolding summing
-one-sum f g = one-curve (summing f g) (single-normal (pairs (buckets f) (buckets g)))
-
-pub one-shape : (f : List ℕ) (d : ℕ) → OneOutcome (shaping f d)
-unfolding shaping
-one-shape f d = one-curve (shaping f d) (single-normal (buckets f ++ linkBucket d ∷ []))
-
--- value one,
-pub one-value :
-    (f : List ℕ) (t : ℕ) {code figure code′ figure′ : ℕ} → ValueOutcome f t code figure → ValueOutcome f t code′ figure′
-    → (code ≡ code′) × (figure ≡ figure′)
-unfolding ValueOutcome
-one-value f t = one-figure (λ m n e e′. e ∙ sym e′)
-
--- join one,
+-- join has one outcome,
 pub one-join :
     (s next : Server) {code code′ : ℕ} {joined joined′ : Server}
     → JoinOutcome s next code joined → JoinOutcome s next code′ joined′ → (code ≡ code′) × (joined ≡ joined′)
@@ -98,12 +45,12 @@ unfolding JoinOutcome
 one-join s next = one-server (λ x y e e′. e ∙ sym e′)
 
 module _ (f : List ℕ) (s : Server) where
-  -- one curve stands behind the server
+  -- one curve stands behind the server,
   pub single-behind : Single (passing f s .Answer)
   unfolding passing
   single-behind g h x y = behind-unique x y
 
-  -- behind one,
+  -- so behind has one,
   pub one-behind : OneOutcome (passing f s)
   one-behind = one-curve (passing f s) single-behind
 
@@ -128,204 +75,27 @@ module _ (f : List ℕ) (s : Server) where
   unfolding ResidualOutcome
   one-residual = one-server (λ x y. residual-unique)
 
--- ---- What is read of an answer.
-
--- The list that a curve answer has written: the first `count` buckets of the lent list.
-abbrev pub listIn : List ℕ → ℕ → List ℕ
-listIn after count = take (2 * count) after
-
--- A list g that is answered: no line holds of the operands, it is the exact answer and not too large, and it stands in the lent
--- list, with its count.
-pub record AnsweredList (ask : Question) (before after : List ℕ) (count : ℕ) (g : List ℕ) : Type 0 where
-  pub operands-clear : Clear (ask .operands)
-  pub right : ask .Answer (buckets g)
-  pub fits : TooLarge (buckets g) → ⊥
-  pub count-is : count ≡ length (buckets g)
-  pub numbers : flat (buckets g) ≡ g
-  pub room : length g ≤ length before
-  pub written : after ≡ over g before
-
--- what is not above is at most
-pub not-above : {a b : ℕ} → (b < a → ⊥) → a ≤ b
-not-above {a} {b} h = split (le-or-lt a b)
-  where
-    split : (a ≤ b) ⊎ (b < a) → a ≤ b
-    split (inl l) = l
-    split (inr l) = absurd (h l)
-
-module _ {ask : Question} {before after : List ℕ} {count : ℕ} where
-  -- the numbers of a curve that is written are read back
-  read-back : (v : Answered (allLines ask (length before)) (ask .Answer) before after 0 count) → listIn after count ≡ flat (v .curve)
-  read-back v =
-      let n : 2 * count ≡ length (flat (v .curve)) = omega (arith, v .count-is, flat-length (v .curve)) in
-      rw (n, v .written) (over-start (flat (v .curve)) before)
-
-  -- what is known of a list that is answered
-  pub answered-list : Outcome ask before after 0 count → AnsweredList ask before after count (listIn after count)
-  answered-list (Outcome.refused v) = absurd (omega (arith, v .code-is, number-positive (v .why)))
-  answered-list (Outcome.answered v) =
-      rw (read-back v)
-      (record {
-        operands-clear = λ r h. v .clear r (inl h);
-        right = rw (buckets-flat (v .curve)) (v .right);
-        fits = rw (buckets-flat (v .curve)) (λ large. v .clear LARGE (inr (inl (refl, (v .curve, v .right, large)))));
-        count-is = rw (buckets-flat (v .curve)) (v .count-is);
-        numbers = rw (buckets-flat (v .curve));
-        room = not-above (λ short. v .clear ROOM (inr (inr (refl, (v .curve, v .right, short)))));
-        written = v .written;
-      })
-
--- it has two numbers for each bucket
-answered-length :
-    {ask : Question} {before after : List ℕ} {count : ℕ} {g : List ℕ} → AnsweredList ask before after count g
-    → length g ≡ 2 * length (buckets g)
-answered-length {g = g} good = ap length (sym (good .numbers)) ∙ flat-length (buckets g)
-
 -- ---- What is known of operands that no line refuses.
 
--- a list is in normal form or it is not
-pub decide-normal : (f : List Bucket) → Dec (NormalForm f)
-decide-normal f = split (isNormal f) refl
-  where
-    split : (t : Bool) → isNormal f ≡ t → Dec (NormalForm f)
-    split true e = yes (neighbours-sound f e)
-    split false e = no (neighbours-refute f e)
-
--- a curve is in normal form
-pub clear-form : (f : List ℕ) → Clear (curveLines f) → NormalForm (buckets f)
-clear-form f clear = split (decide-normal (buckets f))
-  where
-    split : Dec (NormalForm (buckets f)) → NormalForm (buckets f)
-    split (yes n) = n
-    split (no out) = absurd (clear FORM (inr (refl, out)))
-
--- a server that is not out of range is in range
-pub server-in-range : (s : Server) → ((ServerInRange s → ⊥) → ⊥) → ServerInRange s
-server-in-range s not-out =
-    record {
-      rate-some = not-above (λ h. not-out (λ r. omega (arith, r .rate-some)));
-      rate-fits = not-above (λ h. not-out (λ r. omega (arith, r .rate-fits)));
-      latency-fits = not-above (λ h. not-out (λ r. omega (arith, r .latency-fits)));
-    }
-
--- Of a curve and a server: the curve is not refused, it is in normal form, and the server is in range.
+-- A curve and a server of which no line holds, and a bound that the last rate breaks:
 module _ (f : List ℕ) (s : Server) {Broken : Type 0} (clear : Clear (curveLines f or serverLines s or UNBOUNDED when Broken)) where
+  -- the curve is not refused,
   pub port-curve : Clear (curveLines f)
   port-curve r h = clear r (inl (inl h))
 
+  -- it is in normal form,
   pub port-form : NormalForm (buckets f)
   port-form = clear-form f port-curve
 
+  -- the server is in range,
   pub port-server : ServerInRange s
-  port-server = server-in-range s (λ out. clear RANGE (inl (inr (refl, out))))
+  port-server = server-stable (λ out. clear RANGE (inl (inr (refl, out))))
 
--- An answered list in normal form is itself a curve that no line refuses.
-pub accepted-again :
-    {ask : Question} {before after : List ℕ} {count : ℕ} {g : List ℕ}
-    → AnsweredList ask before after count g → NormalForm (buckets g) → Clear (curveLines g)
-accepted-again {g = g} good form = clear-or (clear-or (clear-or list count) range) normal
-  where
-    list : Clear (LIST when ((length g ≡ 0) ⊎ (length g % 2 ≡ 1)))
-    list r (e, inl h) = omega (arith, answered-length good, form .some)
-    list r (e, inr h) = omega (arith, answered-length good, buckets-use g)
-
-    count : Clear (COUNT when (64 < length (buckets g)))
-    count r h = good .fits (inl (h .1))
-
-    range : Clear (RANGE when (AllInRange (buckets g) → ⊥))
-    range r h = good .fits (inr (h .1))
-
-    normal : Clear (FORM when (NormalForm (buckets g) → ⊥))
-    normal r h = h .1 form
-
--- no bucket's rate is below the last one's
-last-slowest : (f : List Bucket) → Falling f → {k : Bucket} → k ∈ f → last f .rate ≤ k .rate
-unfolding Falling last
-last-slowest (j ∷ []) falling {k} m = only (List·Memᴰ·cases-cons m)
-  where
-    only : (k ≡ j) ⊎ (k ∈ []) → j .rate ≤ k .rate
-    only (inl e) = rw e (le-refl (j .rate))
-    only (inr n) = elim n [ ]
-last-slowest (j ∷ i ∷ f) falling {k} m = split (λ n. last-slowest (i ∷ f) (falling .1) n) (List·Memᴰ·cases-cons m)
-  where
-    split : (k ∈ (i ∷ f) → last (i ∷ f) .rate ≤ k .rate) → (k ≡ j) ⊎ (k ∈ (i ∷ f)) → last (i ∷ f) .rate ≤ k .rate
-    split rest (inl e) = rw e (le-of-lt (falling .0 (last (i ∷ f)) (last-inside (i ∷ f) (omega arith))))
-    split rest (inr n) = rest n
-
--- A curve that has an excess for a rate ends in a bucket of at most that rate: at a late tick no other is that low.
-pub excess-bounded : {f : List Bucket} {rate m : ℕ} → NormalForm f → Excess f rate m → last f .rate ≤ rate
-unfolding reads bucketAt
-excess-bounded {f} {rate} {m} form e = from (value-reached f (suc m) 1 (form .some))
-  where
-    from : Reached f (suc m) 1 → last f .rate ≤ rate
-    from r =
-        le-trans (last-slowest f (form .falling) (r .inside))
-        (not-above (λ h. omega (arith, r .value-is, e .greatest (suc m), mul-le-mul-right (suc m) h)))
+  -- and the bound is not broken
+  pub port-bounded : Broken → ⊥
+  port-bounded broken = clear UNBOUNDED (inr (refl, broken))
 
 -- ---- Demand 2: what is answered.
-
--- A list is in normal form, is taken wherever a curve is, and has this value at every non-negative fraction p/q.
-pub record CurveRead (g : List ℕ) (value : ℕ → ℕ → ℕ) : Type 0 where
-  pub normal-form : NormalForm (buckets g)
-  pub accepted : Clear (curveLines g)
-  pub value-is : (p q : ℕ) → 0 < q → valueAt (buckets g) p q ≡ value p q
-
--- so of a list that is answered
-read-curve :
-    {ask : Question} {before after : List ℕ} {count : ℕ} {g : List ℕ} {value : ℕ → ℕ → ℕ}
-    → AnsweredList ask before after count g → NormalForm (buckets g)
-    → ((p q : ℕ) → 0 < q → valueAt (buckets g) p q ≡ value p q) → CurveRead g value
-read-curve good form same = record { normal-form = form; accepted = accepted-again good form; value-is = same }
-
--- normalise answers the raw list's value,
-pub answered-normalise :
-    (raw : List ℕ) {before after : List ℕ} {count : ℕ} → Outcome (normalising raw) before after 0 count
-    → CurveRead (listIn after count) (valueAt (buckets raw))
-unfolding normalising
-answered-normalise raw o =
-    let good = answered-list o in
-    read-curve good (good .right .form) (λ p q h. sym (good .right .same p q h))
-
-module _ (f g : List ℕ) where
-  -- both are in normal form
-  pub both-form : Clear (curveLines f or curveLines g) → NormalForm (buckets f) × NormalForm (buckets g)
-  both-form clear = (clear-form f (λ r h. clear r (inl h)), clear-form g (λ r h. clear r (inr h)))
-
-  -- lower the minimum of the two,
-  pub answered-lower :
-      {before after : List ℕ} {count : ℕ} → Outcome (lowering f g) before after 0 count
-      → CurveRead (listIn after count) (λ p q. min (valueAt (buckets f) p q) (valueAt (buckets g) p q))
-  unfolding lowering
-  answered-lower o =
-      let good = answered-list o in
-      let forms = both-form (good .operands-clear) in
-      read-curve good (good .right .form) (lower-value (buckets f) (buckets g) (forms .0 .some) (forms .1 .some) (good .right))
-
-  -- sum the sum of the two,
-  pub answered-sum :
-      {before after : List ℕ} {count : ℕ} → Outcome (summing f g) before after 0 count
-      → CurveRead (listIn after count) (λ p q. valueAt (buckets f) p q + valueAt (buckets g) p q)
-  unfolding summing
-  answered-sum o =
-      let good = answered-list o in
-      let forms = both-form (good .operands-clear) in
-      read-curve good (good .right .form) (sum-value (buckets f) (buckets g) (forms .0 .some) (forms .1 .some) (good .right))
-
--- the link's bucket (D, 0) has the value D·p/q
-link-value : (d p q : ℕ) → valueAt (linkBucket d ∷ []) p q ≡ d * p
-unfolding valueAt bucketAt
-link-value d p q = omega arith
-
--- and shape the minimum of the curve and of what the link carries
-pub answered-shape :
-    (f : List ℕ) (d : ℕ) {before after : List ℕ} {count : ℕ} → Outcome (shaping f d) before after 0 count
-    → CurveRead (listIn after count) (λ p q. min (valueAt (buckets f) p q) (d * p))
-unfolding shaping
-answered-shape f d o =
-    let good = answered-list o in
-    let form = clear-form f (λ r l. good .operands-clear r (inl l)) in
-    let lower = lower-value (buckets f) (linkBucket d ∷ []) (form .some) (lit≤ tt) (good .right) in
-    read-curve good (good .right .form) (λ p q h. lower p q h ∙ ap (min (valueAt (buckets f) p q)) (link-value d p q))
 
 -- The curve behind: in normal form, taken wherever a curve is, and at every whole t its value is the greatest over whole u of
 -- value(t+u) minus what is served by u.
@@ -355,17 +125,12 @@ pub record JoinRead (s next joined : Server) : Type 0 where
   pub in-range : ServerInRange joined
   pub convolution : (t : ℕ) → Convolution (served s) (served next) t (served joined t)
 
--- where no line holds a figure is answered, and where it is answered none holds
+-- where no line holds a figure is answered
 figure-clear :
     {lines : Lines} {Figure : ℕ → Type 0} {code figure : ℕ}
     → Clear lines → FigureOutcome lines Figure code figure → (code ≡ 0) × Figure figure
 figure-clear none (FigureOutcome.refused v) = absurd (refused-or-clear v none)
 figure-clear none (FigureOutcome.answered clear e x) = (e, x)
-
-figure-answered :
-    {lines : Lines} {Figure : ℕ → Type 0} {figure : ℕ} → FigureOutcome lines Figure 0 figure → Clear lines × Figure figure
-figure-answered (FigureOutcome.refused v) = absurd (omega (arith, v .code-is, number-positive (v .why)))
-figure-answered (FigureOutcome.answered clear e x) = (clear, x)
 
 -- no line holds of the operands of an answered server, and it is in range
 server-answered :
@@ -373,13 +138,7 @@ server-answered :
     → ServerOutcome operands Answer 0 s → Clear operands × Answer s × ServerInRange s
 server-answered (ServerOutcome.refused v e) = absurd (omega (arith, v .code-is, number-positive (v .why)))
 server-answered {s = s} (ServerOutcome.answered clear e x) =
-    (λ r h. clear r (inl h), x, server-in-range s (λ out. clear LARGE (inr (refl, (s, x, out)))))
-
--- an answered value is the curve's at the tick
-pub answered-value :
-    (f : List ℕ) (t : ℕ) {figure : ℕ} → ValueOutcome f t 0 figure → figure ≡ tickValue (buckets f) t
-unfolding ValueOutcome
-answered-value f t o = figure-answered o .1
+    (λ r h. clear r (inl h), x, server-stable (λ out. clear LARGE (inr (refl, (s, x, out)))))
 
 -- what is answered to join,
 pub answered-join : (s next : Server) {joined : Server} → JoinOutcome s next 0 joined → JoinRead s next joined
@@ -389,6 +148,7 @@ answered-join s next o =
     record { definition = known .1; in-range = known .2; convolution = rw (known .1) (join-convolution s next) }
 
 module _ (f : List ℕ) (s : Server) where
+  -- a list that is answered is the curve behind
   read-behind :
       {before after : List ℕ} {count : ℕ} {g : List ℕ} → AnsweredList (passing f s) before after count g → BehindRead f s g
   unfolding passing
@@ -402,7 +162,7 @@ module _ (f : List ℕ) (s : Server) where
 
   -- to behind,
   pub answered-behind :
-      {before after : List ℕ} {count : ℕ} → Outcome (passing f s) before after 0 count → BehindRead f s (listIn after count)
+      {before after : List ℕ} {count : ℕ} → Outcome (passing f s) before after 0 count → BehindRead f s (readBack after count)
   answered-behind o = read-behind (answered-list o)
 
   -- to backlog: the greatest over whole u of value(u) minus what is served by u
@@ -428,7 +188,7 @@ module _ (f : List ℕ) (s : Server) where
         in-range = known .2;
         never-more =
             residual-law (port-form f s clear .some) (known .1)
-            (not-above (λ h. clear UNBOUNDED (inr (refl, omega arith))));
+            (not-above (λ h. port-bounded f s clear (omega arith)));
       }
 
 -- ---- Demand 3: hop by hop is one step through the joined server.
@@ -439,12 +199,12 @@ pub record Hop (f : List ℕ) (s : Server) (g : List ℕ) : Type 0 where
   pub after : List ℕ
   pub count : ℕ
   pub answered : Outcome (passing f s) before after 0 count
-  pub list-is : listIn after count ≡ g
+  pub list-is : readBack after count ≡ g
 
 -- The same where the output is a part of a table.
 pub hop-in-part :
     (f : List ℕ) (s : Server) {at room : ℕ} {before after : List ℕ} {count : ℕ}
-    → PartOutcome (passing f s) at room before after 0 count → Hop f s (listIn (part at room after) count)
+    → PartOutcome (passing f s) at room before after 0 count → Hop f s (readBack (part at room after) count)
 hop-in-part f s o = record { before = _; after = _; count = _; answered = o .inside; list-is = refl }
 
 -- A curve and two servers where both hops and the joining of the servers are answered.
@@ -457,7 +217,7 @@ pub record TwoHops (f : List ℕ) (s next joined : Server) (a g : List ℕ) : Ty
 pub record AnsweredWith (g : List ℕ) (n : ℕ) (before after : List ℕ) (code count : ℕ) : Type 0 where
   pub code-is-0 : code ≡ 0
   pub count-is-the-same : count ≡ n
-  pub list-is-the-same : listIn after count ≡ g
+  pub list-is-the-same : readBack after count ≡ g
   pub beyond-stays : after ≡ over g before
 
 -- What then holds, n being the second hop's count.
@@ -491,21 +251,24 @@ module _ {f : List ℕ} {s next joined : Server} {a g : List ℕ} (hops : TwoHop
   first-behind : BehindRead f s a
   first-behind = read-behind f s (hop-read (hops .first))
 
+  -- the second with its list,
   last-list : AnsweredList (passing a next) (hops .second .before) (hops .second .after) (hops .second .count) g
   last-list = hop-read (hops .second)
 
   second-behind : BehindRead a next g
   second-behind = read-behind a next last-list
 
+  -- the joined server is what join says,
   joined-is : joined ≡ join s next
   joined-is = answered-join s next (hops .joining) .definition
 
-  curve-clear : Clear (curveLines f)
+  -- no line holds of the first curve, which is in normal form,
+  first-clear : Clear (curveLines f)
   unfolding passing
-  curve-clear = port-curve f s (hop-read (hops .first) .operands-clear)
+  first-clear = port-curve f s (hop-read (hops .first) .operands-clear)
 
   curve-form : NormalForm (buckets f)
-  curve-form = clear-form f curve-clear
+  curve-form = clear-form f first-clear
 
   -- the second hop's curve stands behind the joined server,
   joined-behind : Behind (buckets f) joined (buckets g)
@@ -514,7 +277,7 @@ module _ {f : List ℕ} {s next joined : Server} {a g : List ℕ} (hops : TwoHop
   -- no line holds of the first curve and the joined server,
   joined-clear : Clear (portLines f joined)
   joined-clear =
-      clear-or (clear-or curve-clear (λ r h. h .1 (answered-join s next (hops .joining) .in-range)))
+      clear-or (clear-or first-clear (λ r h. h .1 (answered-join s next (hops .joining) .in-range)))
       (λ r h. omega (arith, h .1, excess-bounded curve-form (joined-behind .excess)))
 
   -- so the one step is answered with that list, given room,
@@ -547,10 +310,10 @@ module _ {f : List ℕ} {s next joined : Server} {a g : List ℕ} (hops : TwoHop
       }
     where
       same : Same code count 0 (hops .second .count) after (over g before)
-      same = one-behind f joined .in-a-list o (step-answered before room)
+      same = one-behind f joined .of-list o (step-answered before room)
 
       numbers : 2 * count ≡ length g
-      numbers = omega (arith, same .figure-same, last-list .count-is, answered-length last-list)
+      numbers = omega (arith, same .figure-same, answered-length last-list)
 
   -- the other way round the list is the same
   order-same : {b h : List ℕ} → Hop f next b → Hop b s h → h ≡ g
@@ -597,32 +360,24 @@ module _ {f : List ℕ} {s next joined : Server} {a g : List ℕ} (hops : TwoHop
 
 -- ---- A last rate above the server's.
 
--- The lines of operands have numbers up to 8.
-pub raw-up-to : (l : List ℕ) → UpTo 8 (rawLines l)
-unfolding number
-raw-up-to l = up-to-or (up-to-or (up-to-when LIST (lit≤ tt)) (up-to-when COUNT (lit≤ tt))) (up-to-when RANGE (lit≤ tt))
-
-pub curve-up-to : (f : List ℕ) → UpTo 8 (curveLines f)
-unfolding number
-curve-up-to f = up-to-or (raw-up-to f) (up-to-when FORM (lit≤ tt))
-
+-- the lines of a server have numbers up to 8,
 pub server-up-to : (s : Server) → UpTo 8 (serverLines s)
 unfolding number
 server-up-to s = up-to-when RANGE (lit≤ tt)
 
--- A curve and a server, and a bound that the last rate breaks.
+-- and so have those of a curve and a server, and a bound that the last rate breaks
 pub port-up-to : (f : List ℕ) (s : Server) {Broken : Type 0} → UpTo 8 (curveLines f or serverLines s or UNBOUNDED when Broken)
 unfolding number
 port-up-to f s = up-to-or (up-to-or (curve-up-to f) (server-up-to s)) (up-to-when UNBOUNDED (lit≤ tt))
 
--- An operand of a question that a server answers is refused.
+-- an operand of a question that a server answers is refused
 pub server-refused :
     {operands : Lines} {Answer : Server → Type 0} {code : ℕ}
     → UpTo 8 operands → 1 ≤ code → Verdict operands code → ServerOutcome operands Answer code (record { rate = 0; latency = 0 })
 unfolding number
 server-refused h some v = ServerOutcome.refused (refusal [] some (refused-first h (from-when LARGE (lit≤ tt)) some v)) refl
 
--- A curve and a server that no other line refuses: the last rate above R is UNBOUNDED, and nothing else comes of it.
+-- A curve and a server that no other line refuses, the last rate above R: UNBOUNDED, and nothing else comes of it.
 module _ (f : List ℕ) (s : Server) (curve : Clear (curveLines f)) (server : ServerInRange s) where
   -- the code is 8
   port-unbounded : {Broken : Type 0} → Broken → Verdict (curveLines f or serverLines s or UNBOUNDED when Broken) 8
@@ -630,22 +385,33 @@ module _ (f : List ℕ) (s : Server) (curve : Clear (curveLines f)) (server : Se
   port-unbounded broken = refused-then (accepted (clear-or curve (λ r h. h .1 server)) refl) (line-hit UNBOUNDED broken)
 
   module _ (above : s .rate < last (buckets f) .rate) where
-    -- behind: with no count, and the lent list as it was
+    -- so behind is refused, with no count, and the whole table stays,
+    pub refused-behind : (at room : ℕ) (lent : List ℕ) → PartOutcome (passing f s) at room lent lent 8 0
+    unfolding passing
+    refused-behind at room lent =
+        refuse-in-part (passing f s) at room lent (port-up-to f s) (lit≤ tt) (port-unbounded above)
+
+    -- and backlog and delay are, with no figure
+    pub refused-figure : {Figure : ℕ → Type 0} → FigureOutcome (portLines f s) Figure 8 0
+    refused-figure = FigureOutcome.refused (refusal [] (lit≤ tt) (port-unbounded above))
+
+    -- no other outcome of behind is right,
     pub unbounded-behind :
         {before after : List ℕ} {code count : ℕ} → Outcome (passing f s) before after code count
         → Same code count 8 0 after before
     unfolding passing
     unbounded-behind {before} o =
-        one-behind f s .in-a-list o (refuse (passing f s) before (port-up-to f s) (lit≤ tt) (port-unbounded above))
+        one-behind f s .of-list o (refuse (passing f s) before (port-up-to f s) (lit≤ tt) (port-unbounded above))
 
-    -- backlog and delay: with no figure
+    -- none of backlog
     pub unbounded-backlog : {code n : ℕ} → BacklogOutcome f s code n → (code ≡ 8) × (n ≡ 0)
     unfolding BacklogOutcome
-    unbounded-backlog o = one-backlog f s o (FigureOutcome.refused (refusal [] (lit≤ tt) (port-unbounded above)))
+    unbounded-backlog o = one-backlog f s o refused-figure
 
+    -- and none of delay
     pub unbounded-delay : {code n : ℕ} → DelayOutcome f s code n → (code ≡ 8) × (n ≡ 0)
     unfolding DelayOutcome
-    unbounded-delay o = one-delay f s o (FigureOutcome.refused (refusal [] (lit≤ tt) (port-unbounded above)))
+    unbounded-delay o = one-delay f s o refused-figure
 
   -- residual, already where the last rate is R: with no server
   pub unbounded-residual :

@@ -1,29 +1,32 @@
 -- Every input has an outcome: each line of the table can be decided of its operands, and where none holds there is an exact
--- answer, whose size can be compared. So no contract is empty; that it leaves no second outcome stands in Demands.
+-- answer, whose size can be compared. So no contract is empty; that none leaves a second outcome stands in Answers
+-- and Demands.
 -- Assumes nothing.
-use mathlib.Core.Path.{_≡_, refl, subst, sym, _∙_}
-use mathlib.Core.Logic.{_⊎_, inl, inr}
-use mathlib.Core.List.{List, [], _∷_, List·Memᴰ·head, List·Memᴰ·tail, List·Memᴰ·cases-cons}
+use mathlib.Core.Path.{refl, subst, sym, _∙_}
+use mathlib.Core.Logic.{_⊎_, inl, inr, ⊎-elim, Dec·not}
+use mathlib.Core.List.{List, [], _∷_}
 use Prim.Native.Nat.{ℕ, suc, _%_, _^_, _≤_, _<_}
 use native.Mathlib.Nat.{mul-le-mul}
 use native.Mathlib.Decide.{decLe, ℕ-discrete}
 use native.Mathlib.Omega.{arith}
 use lib.ListN.{length, length-append}
 use lib.Dec.{lit≤}
-use Rattle.meaning.specs.Curve.{Bucket, _∈_, buckets, flat, tickValue, NormalOf}
+use Rattle.meaning.specs.Curve.{Bucket, buckets, flat, tickValue, NormalOf}
 use Rattle.meaning.specs.Server.{Server, join, last}
 use Rattle.meaning.specs.CurveQuestions.{normalising, lowering, summing, shaping, ValueOutcome}
-use Rattle.meaning.specs.Refusal.{Refusal, LIST, COUNT, RANGE, FORM, UNBOUNDED, LARGE, number, Lines, _when_, _or_, Clear, Verdict, accepted, rejected, InRange, AllInRange, TooLarge, rawLines, curveLines, Question, Outcome, FigureOutcome}
+use Rattle.meaning.specs.Refusal.{Refusal, LIST, COUNT, RANGE, FORM, UNBOUNDED, LARGE, number, Lines, _when_, _or_, Clear, Verdict, accepted, rejected, TooLarge, rawLines, curveLines, Question, Outcome, FigureOutcome}
 use Rattle.meaning.specs.ServerQuestions.{ServerInRange, serverLines, portLines, passing, BacklogOutcome, DelayOutcome, ServerOutcome, JoinOutcome, ResidualOutcome}
 use Rattle.meaning.specs.Computed.{earlier, normal, behind, backlog, delay, residual}
-use Rattle.meaning.proofs.Order.{le-or-lt}
+use Rattle.meaning.proofs.Order.{le-or-lt, not-above}
+use Rattle.meaning.proofs.Unique.{normal-of-unique}
+use Rattle.meaning.proofs.Stable.{decide-all-in-range, decide-server, decide-normal}
 use Rattle.meaning.proofs.Normal.{normal-is}
 use Rattle.meaning.proofs.Curves.{pairs-length}
 use Rattle.meaning.proofs.Behind.{behind-is, backlog-is}
 use Rattle.meaning.proofs.Delay.{delay-is}
 use Rattle.meaning.proofs.Joining.{residual-is, residual-unique}
-use Rattle.meaning.proofs.Lists.{buckets-use}
-use Rattle.meaning.proofs.Demands.{not-above, decide-normal, both-form, port-form, port-server, single-normal, single-behind, raw-up-to, curve-up-to, server-up-to, port-up-to, server-refused}
+use Rattle.meaning.proofs.Answers.{raw-some, both-form, raw-up-to, curve-up-to}
+use Rattle.meaning.proofs.Demands.{port-form, port-server, port-bounded, single-behind, server-up-to, port-up-to, server-refused}
 use Rattle.meaning.proofs.Outcomes.{number-positive, Single, UpTo, up-to-or, up-to-when, line-hit, line-miss, clear-or, refused-then, verdict-or, refusal, refuse, too-large, no-room, written-out}
 
 -- ---- What can be decided.
@@ -32,77 +35,43 @@ use Rattle.meaning.proofs.Outcomes.{number-positive, Single, UpTo, up-t
 abbrev Decided : Lines → Type 0
 Decided lines = (code : ℕ) × Verdict lines code
 
--- a line, and two tests together
+-- that of one line does,
 decide-line : (r : Refusal) {P : Type 0} → Dec P → Decided (r when P)
 decide-line r (yes x) = (number r, line-hit r x)
 decide-line r (no x) = (0, line-miss x)
 
+-- and two tests together
 decide-or : {a b : Lines} → Decided a → Decided b → Decided (a or b)
 decide-or (x, v) (y, w) = (earlier x y, verdict-or v w)
 
--- that something is not so, and either of two
-decide-not : {P : Type 0} → Dec P → Dec (P → ⊥)
-decide-not (yes x) = no (λ h. h x)
-decide-not (no x) = yes x
-
-neither : {P Q : Type 0} → (P → ⊥) → (Q → ⊥) → P ⊎ Q → ⊥
-neither x y (inl h) = x h
-neither x y (inr h) = y h
-
+-- either of two can be decided,
 decide-either : {P Q : Type 0} → Dec P → Dec Q → Dec (P ⊎ Q)
 decide-either (yes x) q = yes (inl x)
 decide-either (no x) (yes y) = yes (inr y)
-decide-either (no x) (no y) = no (neither x y)
+decide-either (no x) (no y) = no (⊎-elim x y)
 
--- a bucket, a list and a server in range, an answer too large
-decide-in-range : (k : Bucket) → Dec (InRange k)
-decide-in-range k = both (decLe (suc (k .rate)) (2 ^ 20)) (decLe (suc (k .burst)) (2 ^ 40))
-  where
-    both : Dec (k .rate < 2 ^ 20) → Dec (k .burst < 2 ^ 40) → Dec (InRange k)
-    both (yes r) (yes b) = yes (record { rate-fits = r; burst-fits = b })
-    both (yes r) (no b) = no (λ h. b (h .burst-fits))
-    both (no r) b = no (λ h. r (h .rate-fits))
-
-decide-all-in-range : (f : List Bucket) → Dec (AllInRange f)
-decide-all-in-range [] = yes (λ k m. elim m [ ])
-decide-all-in-range (j ∷ f) = both (decide-in-range j) (decide-all-in-range f)
-  where
-    each : InRange j → AllInRange f → (k : Bucket) → (k ≡ j) ⊎ (k ∈ f) → InRange k
-    each first rest k (inl e) = rw e first
-    each first rest k (inr m) = rest k m
-
-    both : Dec (InRange j) → Dec (AllInRange f) → Dec (AllInRange (j ∷ f))
-    both (yes first) (yes rest) = yes (λ k m. each first rest k (List·Memᴰ·cases-cons m))
-    both (yes first) (no rest) = no (λ all. rest (λ k m. all k (List·Memᴰ·tail m)))
-    both (no first) rest = no (λ all. first (all j (List·Memᴰ·head refl)))
-
-decide-server : (s : Server) → Dec (ServerInRange s)
-decide-server s = all (decLe 1 (s .rate)) (decLe (suc (s .rate)) (2 ^ 20)) (decLe (suc (s .latency)) (2 ^ 20))
-  where
-    all : Dec (1 ≤ s .rate) → Dec (s .rate < 2 ^ 20) → Dec (s .latency < 2 ^ 20) → Dec (ServerInRange s)
-    all (yes some) (yes r) (yes l) = yes (record { rate-some = some; rate-fits = r; latency-fits = l })
-    all (yes some) (yes r) (no l) = no (λ h. l (h .latency-fits))
-    all (yes some) (no r) l = no (λ h. r (h .rate-fits))
-    all (no some) r l = no (λ h. some (h .rate-some))
-
+-- and whether an answer is too large
 decide-too-large : (f : List Bucket) → Dec (TooLarge f)
-decide-too-large f = decide-either (decLe 65 (length f)) (decide-not (decide-all-in-range f))
+decide-too-large f = decide-either (decLe 65 (length f)) (Dec·not (decide-all-in-range f))
 
 -- ---- The lines of operands.
 
--- of a raw list, a curve, a server, and a curve with a server and the bound on its last rate
+-- a test of a raw list comes out,
 raw-decided : (l : List ℕ) → Decided (rawLines l)
 raw-decided l =
     decide-or (decide-or (decide-line LIST (decide-either (ℕ-discrete (length l) 0) (ℕ-discrete (length l % 2) 1)))
     (decide-line COUNT (decLe 65 (length (buckets l)))))
-    (decide-line RANGE (decide-not (decide-all-in-range (buckets l))))
+    (decide-line RANGE (Dec·not (decide-all-in-range (buckets l))))
 
+-- of a curve,
 curve-decided : (f : List ℕ) → Decided (curveLines f)
-curve-decided f = decide-or (raw-decided f) (decide-line FORM (decide-not (decide-normal (buckets f))))
+curve-decided f = decide-or (raw-decided f) (decide-line FORM (Dec·not (decide-normal (buckets f))))
 
+-- of a server,
 server-decided : (s : Server) → Decided (serverLines s)
-server-decided s = decide-line RANGE (decide-not (decide-server s))
+server-decided s = decide-line RANGE (Dec·not (decide-server s))
 
+-- and of a curve with a server and a bound that the last rate breaks
 port-decided :
     (f : List ℕ) (s : Server) {Broken : Type 0} → Dec Broken
     → Decided (curveLines f or serverLines s or UNBOUNDED when Broken)
@@ -117,12 +86,13 @@ pub record HasOutcome (ask : Question) (before : List ℕ) : Type 0 where
   pub count : ℕ
   pub outcome : Outcome ask before after code count
 
--- There is a code and a figure, or a code and a server.
+-- There is a code and a figure.
 pub record HasFigure (FigureOf : ℕ → ℕ → Type 0) : Type 0 where
   pub code : ℕ
   pub figure : ℕ
   pub outcome : FigureOf code figure
 
+-- There is a code and a server.
 pub record HasServer (ServerOf : ℕ → Server → Type 0) : Type 0 where
   pub code : ℕ
   pub server : Server
@@ -140,17 +110,17 @@ curve-outcome :
     → (Clear (ask .operands) → (f : List Bucket) × ask .Answer f) → HasOutcome ask before
 curve-outcome ask before (code, rejected r w e) upto one exact =
     so-curve (refuse ask before upto (omega (arith, e, number-positive r)) (rejected r w e))
-curve-outcome ask before (code, accepted clear e) upto one exact = found (exact clear)
-  where
-    placed :
-        (f : List Bucket) → ask .Answer f → Dec (TooLarge f)
-        → (length (flat f) ≤ length before) ⊎ (length before < length (flat f)) → HasOutcome ask before
-    placed f right (yes large) room = so-curve (too-large ask before clear right large)
-    placed f right (no fits) (inl room) = so-curve (written-out ask before clear right one fits room)
-    placed f right (no fits) (inr short) = so-curve (no-room ask before clear right one fits short)
-
-    found : (f : List Bucket) × ask .Answer f → HasOutcome ask before
-    found (f, right) = placed f right (decide-too-large f) (le-or-lt (length (flat f)) (length before))
+curve-outcome ask before (code, accepted clear e) upto one exact =
+    let f = exact clear .0 in
+    let right = exact clear .1 in
+    elim (decide-too-large f) [
+      | yes large ↦ so-curve (too-large ask before clear right large)
+      | no fits ↦
+          elim (le-or-lt (length (flat f)) (length before)) [
+            | inl room ↦ so-curve (written-out ask before clear right one fits room)
+            | inr short ↦ so-curve (no-room ask before clear right one fits short)
+          ]
+    ]
 
 -- The same of a figure,
 figure-outcome :
@@ -177,38 +147,29 @@ server-outcome (code, rejected r w e) upto one exact =
       server = record { rate = 0; latency = 0 };
       outcome = server-refused upto (omega (arith, e, number-positive r)) (rejected r w e);
     }
-server-outcome {operands} {Answer} (code, accepted clear e) upto one exact = found (exact clear)
-  where
-    placed : (s : Server) → Answer s → Dec (ServerInRange s) → HasServer (ServerOutcome operands Answer)
-    placed s right (yes fits) =
-        record {
-          code = 0;
-          server = s;
-          outcome =
-              ServerOutcome.answered
-              (clear-or clear (λ r h. h .1 .2 (subst ServerInRange (one s (h .1 .0) right (h .1 .1)) fits))) refl right;
-        }
-    placed s right (no out) =
-        record {
-          code = 9;
-          server = record { rate = 0; latency = 0 };
-          outcome =
-              ServerOutcome.refused
-              (refusal [] (lit≤ tt) (refused-then (accepted clear refl) (line-hit LARGE (s, right, out)))) refl;
-        }
-
-    found : (s : Server) × Answer s → HasServer (ServerOutcome operands Answer)
-    found (s, right) = placed s right (decide-server s)
+server-outcome (code, accepted clear e) upto one exact =
+    let s = exact clear .0 in
+    let right = exact clear .1 in
+    elim (decide-server s) [
+      | yes fits ↦
+          record {
+            code = 0;
+            server = s;
+            outcome =
+                ServerOutcome.answered
+                (clear-or clear (λ r h. h .1 .2 (subst ServerInRange (one s (h .1 .0) right (h .1 .1)) fits))) refl right;
+          }
+      | no out ↦
+          record {
+            code = 9;
+            server = record { rate = 0; latency = 0 };
+            outcome =
+                ServerOutcome.refused
+                (refusal [] (lit≤ tt) (refused-then (accepted clear refl) (line-hit LARGE (s, right, out)))) refl;
+          }
+    ]
 
 -- ---- The operations over curves.
-
--- a raw list that no line refuses has a bucket
-raw-some : (l : List ℕ) → Clear (rawLines l) → 1 ≤ length (buckets l)
-raw-some l clear = not-above (λ h. clear LIST (inl (inl (refl, empty-or-odd h (ℕ-discrete (length l) 0)))))
-  where
-    empty-or-odd : length (buckets l) < 1 → Dec (length l ≡ 0) → (length l ≡ 0) ⊎ (length l % 2 ≡ 1)
-    empty-or-odd h (yes e) = inl e
-    empty-or-odd h (no e) = inr (omega (arith, buckets-use l))
 
 -- A question that the normal form of some raw buckets answers has an outcome.
 normal-outcome :
@@ -216,20 +177,22 @@ normal-outcome :
     → Decided operands → UpTo 8 operands → (Clear operands → 1 ≤ length raw)
     → HasOutcome (record { operands = operands; Answer = NormalOf raw }) before
 normal-outcome {raw = raw} before decided upto filled =
-    curve-outcome _ before decided upto (single-normal raw) (λ clear. (normal raw, normal-is raw (filled clear)))
+    curve-outcome _ before decided upto (λ f g. normal-of-unique) (λ clear. (normal raw, normal-is raw (filled clear)))
 
--- normalise, lower, sum, shape and value
+-- normalise has an outcome over every lent list,
 pub normalise-has-outcome : (raw before : List ℕ) → HasOutcome (normalising raw) before
 unfolding normalising
 normalise-has-outcome raw before = normal-outcome before (raw-decided raw) (raw-up-to raw) (raw-some raw)
 
 module _ (f g before : List ℕ) where
+  -- lower has,
   pub lower-has-outcome : HasOutcome (lowering f g) before
   unfolding lowering
   lower-has-outcome =
       normal-outcome before (decide-or (curve-decided f) (curve-decided g)) (up-to-or (curve-up-to f) (curve-up-to g))
       (λ clear. omega (arith, both-form f g clear .0 .some, length-append (buckets f) (buckets g)))
 
+  -- sum has,
   pub sum-has-outcome : HasOutcome (summing f g) before
   unfolding summing
   sum-has-outcome =
@@ -241,6 +204,7 @@ module _ (f g before : List ℕ) where
         mul-le-mul (both-form f g clear .0 .some) (both-form f g clear .1 .some),
       ))
 
+-- and shape has;
 pub shape-has-outcome : (f : List ℕ) (d : ℕ) (before : List ℕ) → HasOutcome (shaping f d) before
 unfolding shaping number
 shape-has-outcome f d before =
@@ -249,6 +213,7 @@ shape-has-outcome f d before =
     (up-to-or (curve-up-to f) (up-to-when RANGE (lit≤ tt)))
     (λ clear. omega (arith, length-append (buckets f) (record { rate = d; burst = 0 } ∷ [])))
 
+-- value has one
 pub value-has-outcome : (f : List ℕ) (t : ℕ) → HasFigure (ValueOutcome f t)
 unfolding ValueOutcome
 value-has-outcome f t =
@@ -261,34 +226,39 @@ module _ (f : List ℕ) (s : Server) where
   bounded : Dec (s .rate < last (buckets f) .rate)
   bounded = decLe (suc (s .rate)) (last (buckets f) .rate)
 
+  -- where no line holds it is not
   last-bounded : Clear (portLines f s) → last (buckets f) .rate ≤ s .rate
-  last-bounded clear = not-above (λ h. clear UNBOUNDED (inr (refl, h)))
+  last-bounded clear = not-above (port-bounded f s clear)
 
-  -- behind, backlog, delay, residual and join
+  -- behind has an outcome over every lent list,
   pub behind-has-outcome : (before : List ℕ) → HasOutcome (passing f s) before
   unfolding passing
   behind-has-outcome before =
       curve-outcome (passing f s) before (port-decided f s bounded) (port-up-to f s) (single-behind f s)
       (λ clear. (behind (buckets f) s, behind-is (buckets f) s (port-form f s clear) (last-bounded clear)))
 
+  -- backlog has one,
   pub backlog-has-outcome : HasFigure (BacklogOutcome f s)
   unfolding BacklogOutcome
   backlog-has-outcome =
       figure-outcome (port-decided f s bounded)
       (λ clear. (backlog (buckets f) s, backlog-is (buckets f) s (port-form f s clear) (last-bounded clear)))
 
+  -- delay has one,
   pub delay-has-outcome : HasFigure (DelayOutcome f s)
   unfolding DelayOutcome
   delay-has-outcome =
       figure-outcome (port-decided f s bounded)
       (λ clear. (delay (buckets f) s, delay-is s (port-form f s clear) (last-bounded clear) (port-server f s clear .rate-some)))
 
+  -- residual has one,
   pub residual-has-outcome : HasServer (ResidualOutcome f s)
   unfolding ResidualOutcome
   residual-has-outcome =
       server-outcome (port-decided f s (decLe (s .rate) (last (buckets f) .rate))) (port-up-to f s) (λ x y. residual-unique)
       (λ clear. (residual (buckets f) s, residual-is (buckets f) s (port-server f s clear .rate-some)))
 
+-- and join has one
 pub join-has-outcome : (s next : Server) → HasServer (JoinOutcome s next)
 unfolding JoinOutcome
 join-has-outcome s next =

@@ -2,34 +2,30 @@
 -- at most R that is tick 0. Otherwise it is the whole tick up to the crossing with the first bucket of rate at most R, or the
 -- tick after: up to that tick the value is had by a bucket of rate above R, and from the tick after on by one of rate at most R.
 -- Assumes nothing.
-use mathlib.Core.Path.{_≡_, refl, sym, _∙_, ap}
+use mathlib.Core.Path.{_≡_, refl, sym, _∙_}
 use mathlib.Core.Logic.{_⊎_, inl, inr}
-use mathlib.Core.List.{List, [], _∷_, _++_, List·Memᴰ·head, List·Memᴰ·tail, List·Memᴰ·cases-cons, List·Memᴰ·append-cases, List·Memᴰ·eq-of-singleton, Memᴰ·append-right}
-use Prim.Native.Nat.{ℕ, _+_, _-_, _*_, _/_, _≤_, _<_, max}
-use native.Mathlib.Nat.{le-trans, le-of-eq, le-of-lt, le-dest, le-antisymm, lt-of-mul-lt-mul-right, lt-div-mul-add, div-mul-le-self}
+use mathlib.Core.List.{List, [], _∷_, _++_, List·Memᴰ·head, List·Memᴰ·tail, List·Memᴰ·eq-of-singleton, Memᴰ·append-right}
+use Prim.Native.Nat.{ℕ, suc, _+_, _-_, _*_, _/_, _≤_, _<_}
+use native.Mathlib.Nat.{mul-le-mul-right, le-trans, le-of-eq, le-of-lt, le-antisymm, lt-of-mul-lt-mul-right, lt-div-mul-add, div-mul-le-self}
 use native.Mathlib.Omega.{arith}
 use lib.ListN.{length, take, getD, length-append}
 use lib.Seq.{append-snoc, take-at, getD-at}
 use borrow.Author.Tests.{le-leb, lt-leb}
-use Rattle.meaning.specs.Curve.{Bucket, _∈_, bucketAt, Falling, Useful, NormalForm, Crossing, valueAt}
+use Rattle.meaning.specs.Curve.{Bucket, _∈_, bucketAt, Falling, Useful, NormalForm, Crossing}
 use Rattle.meaning.specs.Server.{reads, GreatestGap, Excess, last}
 use Rattle.meaning.specs.Computed.{pick, excessAt, excessFrom, excess}
-use Rattle.meaning.proofs.Order.{le-or-lt}
-use Rattle.meaning.proofs.Value.{same-bucket-at, value-least, value-unique, Reached, value-reached}
+use Rattle.meaning.proofs.Order.{le-or-lt, not-above, crosswise}
+use Rattle.meaning.proofs.Lists.{cons-each, append-each}
+use Rattle.meaning.proofs.Value.{same-rate, same-bucket-at, value-least, value-unique, Reached, value-reached}
+use Rattle.meaning.proofs.Joining.{last-slowest}
+use Rattle.meaning.proofs.Neighbours.{Meet, meet, meet-at, before-if-below, after-if-below, below-rises}
 
 -- the greatest gap is one number
 pub gap-unique : {a b : ℕ → ℕ} {m n : ℕ} → GreatestGap a b m → GreatestGap a b n → m ≡ n
 gap-unique g h = omega (arith, g .reached, h .reached, g .greatest (h .at), h .greatest (g .at))
 
--- of two products, larger by larger and smaller by smaller make no less than each larger by a smaller
-crosswise : {a b c d : ℕ} → a ≤ b → c ≤ d → a * d + b * c ≤ a * c + b * d
-crosswise {a} {b} {c} {d} h h' = apart (le-dest h) (le-dest h')
-  where
-    apart : (x : ℕ) × (a + x ≡ b) → (y : ℕ) × (c + y ≡ d) → a * d + b * c ≤ a * c + b * d
-    apart (x, e) (y, e') = rw (← e, ← e') (omega arith)
-
 -- Value minus R·tick is at tick s at most what it is at tick x.
-abbrev NotAbove : List Bucket → ℕ → ℕ → ℕ → Type 0
+abbrev pub NotAbove : List Bucket → ℕ → ℕ → ℕ → Type 0
 NotAbove f rate s x = reads f s + rate * x ≤ reads f x + rate * s
 
 module _ {f : List Bucket} {rate x : ℕ} (r : Reached f x 1) where
@@ -39,7 +35,7 @@ module _ {f : List Bucket} {rate x : ℕ} (r : Reached f x 1) where
   rises-to steep s h = omega (arith, r .value-is, value-least f s 1 (r .inside), crosswise steep h)
 
   -- after a tick whose value is had by a bucket of rate at most R it is not above
-  falls-from : r .bucket .rate ≤ rate → (s : ℕ) → x ≤ s → NotAbove f rate s x
+  pub falls-from : r .bucket .rate ≤ rate → (s : ℕ) → x ≤ s → NotAbove f rate s x
   unfolding reads bucketAt
   falls-from flat s h = omega (arith, r .value-is, value-least f s 1 (r .inside), crosswise flat h)
 
@@ -55,30 +51,28 @@ module _
     -- the larger of the two differences is reached at one of the two,
     turning-reached : AtOrAfter f rate (excessAt f rate x) x
     unfolding excessAt
-    turning-reached = split (le-or-lt (reads f (x + 1) - rate * (x + 1)) (reads f x - rate * x))
-      where
-        split :
-            (reads f (x + 1) - rate * (x + 1) ≤ reads f x - rate * x) ⊎ (reads f x - rate * x < reads f (x + 1) - rate * (x + 1))
-            → AtOrAfter f rate (max (reads f x - rate * x) (reads f (x + 1) - rate * (x + 1))) x
-        split (inl h) = inl (omega (arith, rises-to r steep 0 (omega arith)))
-        split (inr h) = inr (omega arith)
+    turning-reached =
+        elim (le-or-lt (reads f (x + 1) - rate * (x + 1)) (reads f x - rate * x)) [
+          | inl h ↦ inl (omega (arith, rises-to r steep 0 (omega arith)))
+          | inr h ↦ inr (omega arith)
+        ]
 
     -- and no tick has a greater one
     turning-greatest : (s : ℕ) → reads f s ≤ rate * s + excessAt f rate x
     unfolding excessAt
-    turning-greatest s = sides (le-or-lt s x)
-      where
-        sides : (s ≤ x) ⊎ (x < s) → reads f s ≤ rate * s + max (reads f x - rate * x) (reads f (x + 1) - rate * (x + 1))
-        sides (inl h) = omega (arith, rises-to r steep s h)
-        sides (inr h) = omega (arith, falls-from r' flat s (omega arith))
+    turning-greatest s =
+        elim (le-or-lt s x) [
+          | inl h ↦ omega (arith, rises-to r steep s h)
+          | inr h ↦ omega (arith, falls-from r' flat s (omega arith))
+        ]
 
     -- so that is the greatest
     turning : Excess f rate (excessAt f rate x)
-    turning = reached turning-reached
-      where
-        reached : AtOrAfter f rate (excessAt f rate x) x → Excess f rate (excessAt f rate x)
-        reached (inl e) = record { at = x; reached = e; greatest = turning-greatest }
-        reached (inr e) = record { at = x + 1; reached = e; greatest = turning-greatest }
+    turning =
+        elim turning-reached [
+          | inl e ↦ record { at = x; reached = e; greatest = turning-greatest }
+          | inr e ↦ record { at = x + 1; reached = e; greatest = turning-greatest }
+        ]
 
 -- A bucket k strictly below a bucket j at p/q is so at tick x too,
 module _ (k j : Bucket) (p q x : ℕ) (below : bucketAt k p q < bucketAt j p q) where
@@ -99,13 +93,11 @@ module _ (k j : Bucket) (p q x : ℕ) (below : bucketAt k p q < bucketAt j p q) 
 below-other :
     {f : List Bucket} {k j : Bucket} (u : Useful f k) → j ∈ f → (j .rate ≡ k .rate → ⊥)
     → bucketAt k (u .p) (u .q) < bucketAt j (u .p) (u .q)
-below-other u m other = u .below _ m (λ e. other (ap (λ (i : Bucket). i .rate) e))
+below-other u m other = u .below _ m (λ e. other (same-rate e))
 
 -- a useful bucket is lower at 0 than a flatter one
 burst-below : {f : List Bucket} {k j : Bucket} → Useful f k → j ∈ f → j .rate < k .rate → k .burst < j .burst
-unfolding bucketAt
-burst-below {k = k} {j} u m h =
-    omega (arith, earlier-below k j (u .p) (u .q) 0 (below-other u m (omega arith)) (le-of-lt h) (omega arith))
+burst-below {k = k} {j} u m h = below-rises k j (u .p) (u .q) (le-of-lt h) (below-other u m (omega arith))
 
 -- A useful bucket between a steeper and a flatter one:
 module _
@@ -122,19 +114,13 @@ module _
 
     -- so while the steeper is not above it, it is below the flatter,
     below-flat : bucketAt steep x 1 ≤ bucketAt k x 1 → bucketAt k x 1 < bucketAt flat x 1
-    below-flat h = split (le-or-lt (x * u .q) (u .p))
-      where
-        split : (x * u .q ≤ u .p) ⊎ (u .p < x * u .q) → bucketAt k x 1 < bucketAt flat x 1
-        split (inl before) = early before
-        split (inr after) = absurd (omega (arith, late after))
+    below-flat h =
+        elim (le-or-lt (x * u .q) (u .p)) [ inl before ↦ early before | inr after ↦ absurd (omega (arith, late after)) ]
 
     -- and once the flatter is not above it, it is below the steeper
     below-steep : bucketAt flat x 1 ≤ bucketAt k x 1 → bucketAt k x 1 < bucketAt steep x 1
-    below-steep h = split (le-or-lt (x * u .q) (u .p))
-      where
-        split : (x * u .q ≤ u .p) ⊎ (u .p < x * u .q) → bucketAt k x 1 < bucketAt steep x 1
-        split (inl before) = absurd (omega (arith, early before))
-        split (inr after) = late after
+    below-steep h =
+        elim (le-or-lt (x * u .q) (u .p)) [ inl before ↦ absurd (omega (arith, early before)) | inr after ↦ late after ]
 
 -- Where every bucket is of one kind or of the other, and one of the first kind is not above any of the other, one of the first
 -- kind has the value.
@@ -142,17 +128,14 @@ module _ {f : List Bucket} {p q : ℕ} {k : Bucket} (One Other : Bucket → Type
   had-by-one :
       1 ≤ length f → k ∈ f → One k → ((j : Bucket) → j ∈ f → Other j → bucketAt k p q ≤ bucketAt j p q)
       → (r : Reached f p q) × One (r .bucket)
-  had-by-one some m one low = split (value-reached f p q some)
-    where
-      split : Reached f p q → (r : Reached f p q) × One (r .bucket)
-      split r = by (kinds (r .bucket))
-        where
-          by : One (r .bucket) ⊎ Other (r .bucket) → (r : Reached f p q) × One (r .bucket)
-          by (inl h) = (r, h)
-          by (inr h) = (record { bucket = k; inside = m; value-is = value }, one)
-            where
-              value : valueAt f p q ≡ bucketAt k p q
-              value = le-antisymm (value-least f p q m) (le-trans (low _ (r .inside) h) (le-of-eq (sym (r .value-is))))
+  had-by-one some m one low =
+      let r = value-reached f p q some in
+      elim (kinds (r .bucket)) [
+        | inl h ↦ (r, h)
+        | inr h ↦
+            let value = le-antisymm (value-least f p q m) (le-trans (low _ (r .inside) h) (le-of-eq (sym (r .value-is)))) in
+            (record { bucket = k; inside = m; value-is = value }, one)
+      ]
 
 -- Where a bucket stands to two neighbours of a list whose rates fall.
 data Place (before first j : Bucket) : Type 0 where
@@ -162,42 +145,12 @@ data Place (before first j : Bucket) : Type 0 where
   is-flatter : j .rate < first .rate → Place before first j
 
 place :
-    (passed rest : List Bucket) {before first j : Bucket} → Falling (passed ++ before ∷ first ∷ rest)
-    → j ∈ (passed ++ before ∷ first ∷ rest) → Place before first j
+    (passed rest : List Bucket) {before first : Bucket} → Falling (passed ++ before ∷ first ∷ rest)
+    → (j : Bucket) → j ∈ (passed ++ before ∷ first ∷ rest) → Place before first j
 unfolding Falling
-place [] rest {before} {first} {j} h m = split (List·Memᴰ·cases-cons m)
-  where
-    split' : (j ≡ first) ⊎ (j ∈ rest) → Place before first j
-    split' (inl e) = is-first e
-    split' (inr n) = is-flatter (h .1 .0 j n)
-
-    split : (j ≡ before) ⊎ (j ∈ (first ∷ rest)) → Place before first j
-    split (inl e) = is-before e
-    split (inr n) = split' (List·Memᴰ·cases-cons n)
-place (k ∷ passed) rest {before} {first} {j} h m = split (λ n. place passed rest (h .1) n) (List·Memᴰ·cases-cons m)
-  where
-    split :
-        (j ∈ (passed ++ before ∷ first ∷ rest) → Place before first j) → (j ≡ k) ⊎ (j ∈ (passed ++ before ∷ first ∷ rest))
-        → Place before first j
-    split later (inl e) = is-steeper (rw e (h .0 before (Memᴰ·append-right passed (List·Memᴰ·head refl))))
-    split later (inr n) = later n
-
--- A bucket k steeper than j by q, and lower at 0 by p:
-module _ (k j : Bucket) (p q : ℕ) (steeper : k .rate ≡ j .rate + q) (lower : j .burst ≡ k .burst + p) where
-  -- they cross at p/q,
-  crosses : bucketAt k p q ≡ bucketAt j p q
-  unfolding bucketAt
-  crosses = omega (arith, ap (λ r. r * p) steeper, ap (λ b. b * q) lower)
-
-  -- k is not above j up to then,
-  up-to-crossing : (x : ℕ) → x * q ≤ p → bucketAt k x 1 ≤ bucketAt j x 1
-  unfolding bucketAt
-  up-to-crossing x h = omega (arith, ap (λ r. r * x) steeper)
-
-  -- nor j above k from then on
-  from-crossing : (x : ℕ) → p ≤ x * q → bucketAt j x 1 ≤ bucketAt k x 1
-  unfolding bucketAt
-  from-crossing x h = omega (arith, ap (λ r. r * x) steeper)
+place [] rest h = cons-each (is-before refl) (cons-each (is-first refl) (λ j n. is-flatter (h .1 .0 j n)))
+place (k ∷ passed) rest {before} h =
+    cons-each (is-steeper (h .0 before (Memᴰ·append-right passed (List·Memᴰ·head refl)))) (place passed rest (h .1))
 
 -- The first bucket of rate at most R and the one before it, where it is not the first of the list.
 record Turn (f : List Bucket) (rate : ℕ) : Type 0 where
@@ -231,52 +184,45 @@ module _ {f : List Bucket} {rate : ℕ} (n : NormalForm f) (w : Turn f rate) whe
   first-inside = rw (w .whole) (Memᴰ·append-right (w .passed) (List·Memᴰ·tail (List·Memᴰ·head refl)))
 
   placed : {j : Bucket} → j ∈ f → Place (w .before) (w .first) j
-  placed m = place (w .passed) (w .rest) (rw (w .whole) at (n .falling)) (rw (w .whole) at m)
+  placed {j} m = place (w .passed) (w .rest) (rw (w .whole) at (n .falling)) j (rw (w .whole) at m)
 
   turns : w .first .rate < w .before .rate
   turns = omega (arith, before-steep, w .flat)
 
-  -- the one before is the lower at 0
-  bursts-rise : w .before .burst ≤ w .first .burst
-  bursts-rise = le-of-lt (burst-below (n .useful _ before-inside) first-inside turns)
-
-  -- by how much it is steeper, and lower at 0
-  steeper-by : w .before .rate ≡ w .first .rate + fall w
-  steeper-by = omega (arith, turns)
-
-  lower-by : w .first .burst ≡ w .before .burst + rise w
-  lower-by = omega (arith, bursts-rise)
+  -- the one before is the lower at 0, so they meet at the crossing
+  crosses : Meet (w .before) (w .first) (rise w) (fall w)
+  crosses = meet _ _ (le-of-lt turns) (le-of-lt (burst-below (n .useful _ before-inside) first-inside turns))
 
   -- at the whole tick up to the crossing the one before is not above a bucket of rate at most R
   before-lowest : (j : Bucket) → j ∈ f → j .rate ≤ rate → bucketAt (w .before) (tick w) 1 ≤ bucketAt j (tick w) 1
-  before-lowest j m slow = split (placed m)
+  before-lowest j m slow =
+      elim (placed m) [
+        | is-steeper h ↦ absurd (omega (arith, before-steep))
+        | is-before e ↦ le-of-eq (sym (same-bucket-at _ _ e))
+        | is-first e ↦ le-trans ahead (le-of-eq (sym (same-bucket-at _ _ e)))
+        | is-flatter h ↦
+            le-trans ahead (le-of-lt (below-flat (n .useful _ first-inside) before-inside m turns h (tick w) ahead))
+      ]
     where
       ahead : bucketAt (w .before) (tick w) 1 ≤ bucketAt (w .first) (tick w) 1
-      ahead = up-to-crossing _ _ (rise w) (fall w) steeper-by lower-by (tick w) (div-mul-le-self _ _)
-
-      split : Place (w .before) (w .first) j → bucketAt (w .before) (tick w) 1 ≤ bucketAt j (tick w) 1
-      split (is-steeper h) = absurd (omega (arith, before-steep))
-      split (is-before e) = le-of-eq (sym (same-bucket-at _ _ e))
-      split (is-first e) = le-trans ahead (le-of-eq (sym (same-bucket-at _ _ e)))
-      split (is-flatter h) =
-          le-trans ahead (le-of-lt (below-flat (n .useful _ first-inside) before-inside m turns h (tick w) ahead))
+      ahead = not-above (λ h. omega (arith, after-if-below crosses (tick w) 1 h, div-mul-le-self (rise w) (fall w)))
 
   -- at the tick after it the first is not above a bucket of rate above R
   first-lowest : (j : Bucket) → j ∈ f → rate < j .rate → bucketAt (w .first) (tick w + 1) 1 ≤ bucketAt j (tick w + 1) 1
-  first-lowest j m fast = split (placed m)
+  first-lowest j m fast =
+      elim (placed m) [
+        | is-steeper h ↦
+            le-trans past (le-of-lt (below-steep (n .useful _ before-inside) m first-inside h turns (tick w + 1) past))
+        | is-before e ↦ le-trans past (le-of-eq (sym (same-bucket-at _ _ e)))
+        | is-first e ↦ le-of-eq (sym (same-bucket-at _ _ e))
+        | is-flatter h ↦ absurd (omega (arith, w .flat))
+      ]
     where
-      past : bucketAt (w .first) (tick w + 1) 1 ≤ bucketAt (w .before) (tick w + 1) 1
-      past = from-crossing _ _ (rise w) (fall w) steeper-by lower-by (tick w + 1) (omega (arith, reaches))
-        where
-          reaches : rise w < rise w / fall w * fall w + fall w
-          reaches = lt-div-mul-add (omega (arith, turns))
+      reaches : rise w < rise w / fall w * fall w + fall w
+      reaches = lt-div-mul-add (omega (arith, turns))
 
-      split : Place (w .before) (w .first) j → bucketAt (w .first) (tick w + 1) 1 ≤ bucketAt j (tick w + 1) 1
-      split (is-steeper h) =
-          le-trans past (le-of-lt (below-steep (n .useful _ before-inside) m first-inside h turns (tick w + 1) past))
-      split (is-before e) = le-trans past (le-of-eq (sym (same-bucket-at _ _ e)))
-      split (is-first e) = le-of-eq (sym (same-bucket-at _ _ e))
-      split (is-flatter h) = absurd (omega (arith, w .flat))
+      past : bucketAt (w .first) (tick w + 1) 1 ≤ bucketAt (w .before) (tick w + 1) 1
+      past = not-above (λ h. omega (arith, before-if-below crosses (tick w + 1) 1 h, reaches))
 
   -- so the value is had there by a bucket of rate at least R,
   steep-there : (r : Reached f (tick w) 1) × (rate ≤ r .bucket .rate)
@@ -305,26 +251,17 @@ find-turn :
 unfolding last excessFrom pick
 find-turn rate passed before [] e steep slow =
     absurd (omega (arith, steep before (Memᴰ·append-right passed (List·Memᴰ·head refl))))
-find-turn {f} rate passed before (k ∷ g) e steep slow =
-    split (le-or-lt (k .rate) rate)
-    (λ h. find-turn rate (passed ++ before ∷ []) k g (e ∙ sym (append-snoc passed before (k ∷ g))) (further h) slow)
-  where
-    further : rate < k .rate → (j : Bucket) → j ∈ ((passed ++ before ∷ []) ++ k ∷ []) → rate < j .rate
-    further h j m = cases (List·Memᴰ·append-cases (passed ++ before ∷ []) m)
-      where
-        cases : (j ∈ (passed ++ before ∷ [])) ⊎ (j ∈ (k ∷ [])) → rate < j .rate
-        cases (inl n) = steep j n
-        cases (inr n) = rw (List·Memᴰ·eq-of-singleton n) h
-
-    split :
-        (k .rate ≤ rate) ⊎ (rate < k .rate)
-        → (rate < k .rate → (w : Turn f rate) × (excessFrom f rate k g ≡ excessAt f rate (tick w)))
-        → (w : Turn f rate) × (excessFrom f rate before (k ∷ g) ≡ excessAt f rate (tick w))
-    split (inl h) onward = (
-      record { passed = passed; before = before; first = k; rest = g; whole = e; steeper = steep; flat = h },
-      rw (le-leb (k .rate) rate h),
-    )
-    split (inr h) onward = rw (lt-leb (k .rate) rate h) (onward h)
+find-turn rate passed before (k ∷ g) e steep slow =
+    elim (le-or-lt (k .rate) rate) [
+      | inl h ↦ (
+        record { passed = passed; before = before; first = k; rest = g; whole = e; steeper = steep; flat = h },
+        rw (le-leb (k .rate) rate h),
+      )
+      | inr h ↦
+          rw (lt-leb (k .rate) rate h)
+          (find-turn rate (passed ++ before ∷ []) k g (e ∙ sym (append-snoc passed before (k ∷ g)))
+          (append-each {r = k ∷ []} steep (λ j n. omega (arith, same-rate (List·Memᴰ·eq-of-singleton n)))) slow)
+    ]
 
 -- Where the first bucket's rate is at most R, and rates fall, tick 0 has the greatest.
 module _ {k : Bucket} {g : List Bucket} {rate : ℕ} (n : NormalForm (k ∷ g)) (slow : k .rate ≤ rate) where
@@ -339,11 +276,9 @@ module _ {k : Bucket} {g : List Bucket} {rate : ℕ} (n : NormalForm (k ∷ g)) 
       }
     where
       least : (j : Bucket) → j ∈ (k ∷ g) → bucketAt k 0 1 ≤ bucketAt j 0 1
-      least j m = split (List·Memᴰ·cases-cons m)
-        where
-          split : (j ≡ k) ⊎ (j ∈ g) → bucketAt k 0 1 ≤ bucketAt j 0 1
-          split (inl e) = le-of-eq (sym (same-bucket-at 0 1 e))
-          split (inr i) = omega (arith, burst-below (n .useful k (List·Memᴰ·head refl)) m (n .falling .0 j i))
+      least =
+          cons-each (omega arith)
+          (λ j i. omega (arith, burst-below (n .useful k (List·Memᴰ·head refl)) (List·Memᴰ·tail i) (n .falling .0 j i)))
 
   start-value : reads (k ∷ g) 0 ≡ k .burst
   unfolding reads bucketAt first-has
@@ -366,14 +301,13 @@ data Kind (rate : ℕ) : List Bucket → Type 0 where
 kind : (f : List Bucket) (rate : ℕ) → 1 ≤ length f → last f .rate ≤ rate → Kind rate f
 unfolding excess pick
 kind [] rate some slow = absurd (omega arith)
-kind (k ∷ g) rate some slow = split (le-or-lt (k .rate) rate)
-  where
-    split : (k .rate ≤ rate) ⊎ (rate < k .rate) → Kind rate (k ∷ g)
-    split (inl h) = starts {k = k} {g = g} h (rw (le-leb (k .rate) rate h))
-    split (inr h) = turned (find-turn rate [] k g refl (λ j m. rw (List·Memᴰ·eq-of-singleton m) h) slow)
-      where
-        turned : (w : Turn (k ∷ g) rate) × (excessFrom (k ∷ g) rate k g ≡ excessAt (k ∷ g) rate (tick w)) → Kind rate (k ∷ g)
-        turned (w, e) = turns-at w (rw (lt-leb (k .rate) rate h) e)
+kind (k ∷ g) rate some slow =
+    elim (le-or-lt (k .rate) rate) [
+      | inl h ↦ starts {k = k} {g = g} h (rw (le-leb (k .rate) rate h))
+      | inr h ↦
+          let t = find-turn rate [] k g refl (λ j m. rw (List·Memᴰ·eq-of-singleton m) h) slow in
+          turns-at (t .0) (rw (lt-leb (k .rate) rate h) (t .1))
+    ]
 
 -- the greatest of value(s) - R·s exists where the last rate is at most R, and the computed number is it
 pub excess-is : {f : List Bucket} (rate : ℕ) → NormalForm f → last f .rate ≤ rate → Excess f rate (excess f rate)
@@ -382,6 +316,20 @@ excess-is {f} rate n slow = cases n (kind f rate (n .some) slow)
     cases : {f : List Bucket} → NormalForm f → Kind rate f → Excess f rate (excess f rate)
     cases n (starts h e) = rw e (starting-excess n h)
     cases n (turns-at w e) = rw e (turn-excess n w)
+
+-- a curve that has an excess for a rate has a bucket of at most that rate: at a late tick no other is that low
+pub slow-bucket : {f : List Bucket} {rate m : ℕ} → 1 ≤ length f → Excess f rate m → (k : Bucket) × (k ∈ f) × (k .rate ≤ rate)
+unfolding reads bucketAt
+slow-bucket {f} {rate} {m} some e =
+    let r = value-reached f (suc m) 1 some in (
+      r .bucket,
+      r .inside,
+      not-above (λ h. omega (arith, r .value-is, e .greatest (suc m), mul-le-mul-right (suc m) h)),
+    )
+
+-- in normal form that is the last, so its rate is at most that rate
+pub excess-bounded : {f : List Bucket} {rate m : ℕ} → NormalForm f → Excess f rate m → last f .rate ≤ rate
+excess-bounded {f} n e = let k = slow-bucket (n .some) e in le-trans (last-slowest f (n .falling) (k .1)) (k .2)
 
 -- The bucket numbered k, buckets counted from 1.
 abbrev pub numbered : List Bucket → ℕ → Bucket
@@ -440,7 +388,10 @@ at-turn {f} {rate} {m} n w e =
       p = rise w;
       q = fall w;
       q-positive = omega (arith, turns n w);
-      crossing = rw (before-at w, first-at w) (crosses _ _ _ _ (steeper-by n w) (lower-by n w));
+      crossing =
+          same-bucket-at _ _ (before-at w)
+          ∙ meet-at (crosses n w) (rise w) (fall w) .1 (omega arith)
+          ∙ sym (same-bucket-at _ _ (first-at w));
       reached = rw (← e) (turn-reached n w);
     }
 

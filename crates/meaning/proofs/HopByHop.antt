@@ -7,20 +7,21 @@
 -- or before that latency, and then the curve is below its line ever after, and both cuts are the curve itself.
 -- Assumes nothing.
 use mathlib.Core.Path.{_≡_, refl, sym, _∙_, ap}
-use mathlib.Core.Logic.{_⊎_, inl, inr}
-use mathlib.Core.List.{List}
+use mathlib.Core.Logic.{inl, inr}
+use mathlib.Core.List.{List, List·Memᴰ·append-cases, List·Memᴰ·eq-of-singleton}
 use Prim.Native.Nat.{ℕ, suc, zero, _*_, _+_, _-_, _≤_, _<_, min}
-use native.Mathlib.Nat.{le-trans, le-of-eq, le-of-lt, le-dest, le-suc-iff, min-eq-left, min-eq-right, min-comm, add-comm, mul-le-mul-left, mul-le-mul-right}
+use native.Mathlib.Nat.{le-trans, le-of-eq, le-of-lt, le-suc-iff, min-eq-left, min-eq-right, mul-le-mul-left, mul-le-mul-right}
 use native.Mathlib.Omega.{arith}
 use lib.ListN.{length}
 use Rattle.meaning.specs.Curve.{Bucket, _∈_, bucketAt, valueAt}
-use Rattle.meaning.specs.Server.{Server, Instant, served, reads, GreatestGap, join, Excess, Behind, Delay}
-use Rattle.meaning.proofs.Order.{le-or-lt}
-use Rattle.meaning.proofs.Value.{value-least, value-reached, some, Reached}
-use Rattle.meaning.proofs.Unique.{normal-of-unique}
-use Rattle.meaning.proofs.Excess.{gap-unique}
+use Rattle.meaning.specs.Server.{Server, Instant, served, reads, later, slower, join, Excess, Behind, Delay}
+use Rattle.meaning.proofs.Order.{le-or-lt, not-above, crosswise}
+use Rattle.meaning.proofs.Value.{same-rate, value-least, value-reached, some, Reached}
+use Rattle.meaning.proofs.Unique.{normal-inside, normal-of-unique}
+use Rattle.meaning.proofs.Excess.{gap-unique, NotAbove, falls-from, slow-bucket}
 use Rattle.meaning.proofs.Joining.{join-order}
-use Rattle.meaning.proofs.Cut.{cutAt, CutReached, by-line, by-slow, cut-line, cut-slow, cut-reached, cutList, cut-list, behind-cut, cut-early, cut-late, flatter-before, steeper-after}
+use Rattle.meaning.proofs.Behind.{behind-greatest}
+use Rattle.meaning.proofs.Cut.{cutAt, slower-from, cut-filled, by-line, by-slow, cut-line, cut-slow, cut-reached, cutList, cut-list, behind-cut, cut-early, cut-late, flatter-before, steeper-after}
 
 -- n is the greatest of a(u) minus b(u) over the instants up to `end`.
 record GreatestUpTo (a b : Instant → ℕ) (end n : ℕ) : Type 0 where
@@ -30,54 +31,46 @@ record GreatestUpTo (a b : Instant → ℕ) (end n : ℕ) : Type 0 where
 
 -- up to any instant there is a greatest gap, if there is one at 0
 greatest-up-to : (a b : Instant → ℕ) → b 0 ≤ a 0 → (end : ℕ) → (n : ℕ) × GreatestUpTo a b end n
-greatest-up-to a b h zero = (a 0 - b 0, record { at = 0; reached = omega arith; greatest = λ u l. only u (omega arith) })
-  where
-    only : (u : ℕ) → u ≡ 0 → a u ≤ b u + (a 0 - b 0)
-    only u e = rw e (omega arith)
+greatest-up-to a b h zero =
+    (a 0 - b 0, record { at = 0; reached = omega arith; greatest = λ u l. let e : u ≡ 0 = omega arith in rw e (omega arith) })
 greatest-up-to a b h (suc end) = next (greatest-up-to a b h end)
   where
     next : (n : ℕ) × GreatestUpTo a b end n → (n : ℕ) × GreatestUpTo a b (suc end) n
-    next (n, r) = split (le-or-lt (a (suc end)) (b (suc end) + n))
+    next (n, r) =
+        elim (le-or-lt (a (suc end)) (b (suc end) + n)) [
+          | inl l ↦ (n, record { at = r .at; reached = r .reached; greatest = last n (omega arith) l })
+          | inr l ↦
+              let m = a (suc end) - b (suc end) in
+              (m, record { at = suc end; reached = omega arith; greatest = last m (omega arith) (omega arith) })
+        ]
       where
-        last : (m : ℕ) → n ≤ m → a (suc end) ≤ b (suc end) + m → (u : Instant) → (u ≤ end) ⊎ (u ≡ suc end) → a u ≤ b u + m
-        last m l h u (inl i) = omega (arith, r .greatest u i)
-        last m l h u (inr e) = rw e h
-
-        split : (a (suc end) ≤ b (suc end) + n) ⊎ (b (suc end) + n < a (suc end)) → (n : ℕ) × GreatestUpTo a b (suc end) n
-        split (inl l) = (n, record { at = r .at; reached = r .reached; greatest = λ u i. last n (omega arith) l u (le-suc-iff .0 i) })
-        split (inr l) =
-            let m = a (suc end) - b (suc end) in
-            (m, record { at = suc end; reached = omega arith; greatest = λ u i. last m (omega arith) (omega arith) u (le-suc-iff .0 i) })
+        last : (m : ℕ) → n ≤ m → a (suc end) ≤ b (suc end) + m → (u : Instant) → u ≤ suc end → a u ≤ b u + m
+        last m l h u i = elim (le-suc-iff .0 i) [ inl e ↦ omega (arith, r .greatest u e) | inr e ↦ rw e h ]
 
 -- The curve has a bucket whose rate is at most `rate`.
 module _ (f : List Bucket) (rate : ℕ) {k : Bucket} (m : k ∈ f) (slow : k .rate ≤ rate) where
   -- then the gap no longer grows past that bucket's burst: from there on no faster bucket is below this one
-  no-growth : (u : Instant) → k .burst ≤ u → reads f u + rate * k .burst ≤ reads f (k .burst) + rate * u
+  no-growth : (u : Instant) → k .burst ≤ u → NotAbove f rate u (k .burst)
   unfolding reads bucketAt
-  no-growth u h = reached (value-reached f (k .burst) 1 (some m))
-    where
-      reached : Reached f (k .burst) 1 → valueAt f u 1 + rate * k .burst ≤ valueAt f (k .burst) 1 + rate * u
-      reached r = split (le-or-lt (r .bucket .rate) rate) (le-dest h)
-        where
-          split :
-              (r .bucket .rate ≤ rate) ⊎ (rate < r .bucket .rate) → (x : ℕ) × (k .burst + x ≡ u)
-              → valueAt f u 1 + rate * k .burst ≤ valueAt f (k .burst) 1 + rate * u
-          split (inl l) (x, e) =
-              let j = r .bucket in
-              omega
-              (arith, r .value-is, value-least f u 1 (r .inside), mul-le-mul-right x l, ap (λ y. j .rate * y) e, ap (λ y. rate * y) e)
-          split (inr l) (x, e) = omega (arith, r .value-is, value-least f u 1 m, mul-le-mul-right u slow, mul-le-mul-right (k .burst) l)
+  no-growth u h =
+      let r = value-reached f (k .burst) 1 (some m) in
+      elim (le-or-lt (r .bucket .rate) rate) [
+        | inl l ↦ falls-from r l u h
+        | inr l ↦ omega (arith, r .value-is, value-least f u 1 m, mul-le-mul-right u slow, mul-le-mul-right (k .burst) l)
+      ]
 
   -- and so there is a greatest gap
   pub excess-exists : (n : ℕ) × Excess f rate n
-  excess-exists = beyond (greatest-up-to (reads f) (λ u. rate * u) (omega arith) (k .burst))
+  excess-exists =
+      let g = greatest-up-to (reads f) (λ u. rate * u) (omega arith) (k .burst) in
+      (g .0, record { at = g .1 .at; reached = g .1 .reached; greatest = within (g .1) })
     where
-      beyond : (n : ℕ) × GreatestUpTo (reads f) (λ u. rate * u) (k .burst) n → (n : ℕ) × Excess f rate n
-      beyond (n, r) = (n, record { at = r .at; reached = r .reached; greatest = λ u. split u (le-or-lt u (k .burst)) })
-        where
-          split : (u : Instant) → (u ≤ k .burst) ⊎ (k .burst < u) → reads f u ≤ rate * u + n
-          split u (inl h) = r .greatest u h
-          split u (inr h) = omega (arith, r .greatest (k .burst) (omega arith), no-growth u (le-of-lt h))
+      within : {n : ℕ} → GreatestUpTo (reads f) (λ u. rate * u) (k .burst) n → (u : Instant) → reads f u ≤ rate * u + n
+      within r u =
+          elim (le-or-lt u (k .burst)) [
+            | inl h ↦ r .greatest u h
+            | inr h ↦ omega (arith, r .greatest (k .burst) (omega arith), no-growth u (le-of-lt h))
+          ]
 
 -- At no time is the curve above the line of that rate from its value at 0.
 abbrev Flat : List Bucket → ℕ → Type 0
@@ -113,13 +106,13 @@ module _ {f a : List Bucket} {s : Server} (b : Behind f s a) {rate : ℕ} where
   -- and by every rate that is at least the server's, whatever gives that value
   server-flat : s .rate ≤ rate → Flat a rate
   unfolding reads bucketAt
-  server-flat flat = reached (cut-reached (s .rate) (b .m) (0 + s .latency * 1) 1 f)
-    where
-      reached : CutReached f (s .rate) (b .m) (0 + s .latency * 1) 1 → Flat a rate
-      reached (by-line e) =
-          below-bucket-flat a (record { rate = s .rate; burst = b .m }) (s .latency) flat (behind-cut b 0 1 (omega arith) ∙ e)
-          (λ p q h. le-trans (le-of-eq (behind-cut b p q h)) (cut-line (s .rate) (b .m) (p + s .latency * q) q f))
-      reached (by-slow k n slow e) = by-bucket-flat n slow (le-trans slow flat) (behind-cut b 0 1 (omega arith) ∙ e)
+  server-flat flat =
+      elim (cut-reached (s .rate) (b .m) (0 + s .latency * 1) 1 f) [
+        | by-line e ↦
+            below-bucket-flat a (record { rate = s .rate; burst = b .m }) (s .latency) flat (behind-cut b 0 1 (omega arith) ∙ e)
+            (λ p q h. le-trans (le-of-eq (behind-cut b p q h)) (cut-line (s .rate) (b .m) (p + s .latency * q) q f))
+        | by-slow k n slow e ↦ by-bucket-flat n slow (le-trans slow flat) (behind-cut b 0 1 (omega arith) ∙ e)
+      ]
 
 -- The cut of a, which stands a latency behind f, is a cut of f itself.
 record OneCut (f a : List Bucket) (latency rate next m : ℕ) : Type 0 where
@@ -138,25 +131,15 @@ next-faster {a = a} b {next} e h =
       same = λ p q l. cut-flat a next (b .normal .form .some) e (server-flat b h) p q l ∙ behind-cut b p q l;
     }
 
--- of two rates and two times, the greater with the greater and the smaller with the smaller make more than crosswise
-rearranged : {r t u v : ℕ} → r < t → u < v → t * u + r * v < t * v + r * u
-rearranged {r} {t} {u} {v} flat early = on (le-dest early)
-  where
-    on : (x : ℕ) × (suc u + x ≡ v) → t * u + r * v < t * v + r * u
-    on (x, e) = omega (arith, mul-le-mul-right (suc x) flat, ap (λ y. r * y) e, ap (λ y. t * y) e)
-
 -- Two lines over one curve, the first the steeper.
 module _
     (f : List Bucket) (filled : 1 ≤ length f) {r₁ m₁ r₂ m₂ : ℕ} (e₁ : Excess f r₁ m₁) (e₂ : Excess f r₂ m₂)
     (steeper : r₂ < r₁) where
   -- the first is met no later
   met-in-order : e₁ .at ≤ e₂ .at
-  met-in-order = split (le-or-lt (e₁ .at) (e₂ .at))
-    where
-      split : (e₁ .at ≤ e₂ .at) ⊎ (e₂ .at < e₁ .at) → e₁ .at ≤ e₂ .at
-      split (inl h) = h
-      split (inr h) =
-          absurd (omega (arith, rearranged steeper h, e₁ .reached, e₂ .reached, e₁ .greatest (e₂ .at), e₂ .greatest (e₁ .at)))
+  met-in-order =
+      not-above (λ h.
+      omega (arith, crosswise steeper h, e₁ .reached, e₂ .reached, e₁ .greatest (e₂ .at), e₂ .greatest (e₁ .at)))
 
   -- from there on it is the upper one
   upper-after : (p q : ℕ) → e₂ .at * q ≤ p → r₂ * p + m₂ * q ≤ r₁ * p + m₁ * q
@@ -168,14 +151,14 @@ module _
   -- the cut by the first is at no tick above the second line
   cut-under : (v : Instant) → cutAt f r₁ m₁ v 1 ≤ r₂ * v + m₂
   unfolding reads bucketAt
-  cut-under v = split (le-or-lt v (e₁ .at))
-    where
-      split : (v ≤ e₁ .at) ⊎ (e₁ .at < v) → cutAt f r₁ m₁ v 1 ≤ r₂ * v + m₂
-      split (inl h) =
-          let above : r₁ * e₁ .at + m₁ ≤ r₂ * e₁ .at + m₂ * 1 = omega (arith, e₁ .reached, e₂ .greatest (e₁ .at)) in
-          let flat = flatter-before (record { rate = r₂; burst = m₂ }) r₁ m₁ (e₁ .at) above v 1 (le-of-lt steeper) (omega arith) in
-          omega (arith, cut-line r₁ m₁ v 1 f)
-      split (inr h) = omega (arith, cut-late f r₁ m₁ (e₁ .at) (e₁ .reached) filled v 1 (omega arith), e₂ .greatest v)
+  cut-under v =
+      elim (le-or-lt v (e₁ .at)) [
+        | inl h ↦
+            let above : r₁ * e₁ .at + m₁ ≤ r₂ * e₁ .at + m₂ * 1 = omega (arith, e₁ .reached, e₂ .greatest (e₁ .at)) in
+            let flat = flatter-before (record { rate = r₂; burst = m₂ }) r₁ m₁ (e₁ .at) above v 1 (le-of-lt steeper) (omega arith) in
+            omega (arith, cut-line r₁ m₁ v 1 f)
+        | inr h ↦ omega (arith, cut-late f r₁ m₁ (e₁ .at) (e₁ .reached) filled v 1 (omega arith), e₂ .greatest v)
+      ]
 
   -- both cuts, one after the other, are the second where both lines have been met
   nested-cut : (p q : ℕ) → e₂ .at * q ≤ p → min (cutAt f r₁ m₁ p q) (r₂ * p + m₂ * q) ≡ cutAt f r₂ m₂ p q
@@ -187,26 +170,17 @@ module _
         upper-after p q h,
       )
 
--- a curve with an excess behind a faster server comes from one that has a slow bucket: at a late tick no other can be that low
+-- a curve with an excess behind a faster server comes from one that has a slow bucket
 behind-slow-bucket :
     {f a : List Bucket} {s : Server} (b : Behind f s a) {next m : ℕ} → Excess a next m → next < s .rate
     → (k : Bucket) × (k ∈ f) × (k .rate ≤ next)
-unfolding reads bucketAt
-behind-slow-bucket {f} {a} {s} b {next} {m} e h = reached (cut-reached (s .rate) (b .m) (suc m + s .latency * 1) 1 f)
-  where
-    low : cutAt f (s .rate) (b .m) (suc m + s .latency * 1) 1 ≤ next * suc m + m
-    low = le-trans (le-of-eq (sym (behind-cut b (suc m) 1 (omega arith)))) (e .greatest (suc m))
-
-    too-high : (r x : ℕ) → next < r → r * (suc m + s .latency * 1) + x ≤ next * suc m + m → ⊥
-    too-high r x l i = omega (arith, mul-le-mul-right (suc m) l)
-
-    reached : CutReached f (s .rate) (b .m) (suc m + s .latency * 1) 1 → (k : Bucket) × (k ∈ f) × (k .rate ≤ next)
-    reached (by-line d) = absurd (too-high (s .rate) (b .m * 1) h (le-trans (le-of-eq (sym d)) low))
-    reached (by-slow k n slow d) = split (le-or-lt (k .rate) next)
-      where
-        split : (k .rate ≤ next) ⊎ (next < k .rate) → (k : Bucket) × (k ∈ f) × (k .rate ≤ next)
-        split (inl i) = (k, n, i)
-        split (inr i) = absurd (too-high (k .rate) (k .burst * 1) i (le-trans (le-of-eq (sym d)) low))
+unfolding later
+behind-slow-bucket {f} {s = s} b e h =
+    let k = slow-bucket (b .normal .form .some) e in
+    elim (List·Memᴰ·append-cases (slower s f) (normal-inside (cut-filled f s (b .m)) (b .normal) (k .1))) [
+      | inl i ↦ let r = slower-from s f i in (r .bucket, r .inside, omega (arith, k .2, same-rate (r .is-later)))
+      | inr i ↦ absurd (omega (arith, k .2, same-rate (List·Memᴰ·eq-of-singleton i)))
+    ]
 
 -- The next server is slower, and n is the excess over the first curve for its rate.
 module _
@@ -238,36 +212,32 @@ module _
 
     -- and the cut by it there is the cut of the first curve
     same-after : (p q : ℕ) → 0 < q → cutAt a next (next * s .latency + n) p q ≡ cutAt f next n (p + s .latency * q) q
-    same-after p q h = split (le-or-lt p (w * q))
-      where
-        split : (p ≤ w * q) ⊎ (w * q < p) → cutAt a next (next * s .latency + n) p q ≡ cutAt f next n (p + s .latency * q) q
-        split (inl l) =
-            omega (
-              arith,
-              cut-early a next (next * s .latency + n) w met-behind p q l,
-              cut-early f next n (e .at) (e .reached) (p + s .latency * q) q (omega (arith, ap (λ x. x * q) after)),
-            )
-        split (inr l) =
-            omega (
-              arith,
-              cut-late a next (next * s .latency + n) w met-behind (b .normal .form .some) p q (le-of-lt l),
-              behind-cut b p q h,
-              nested-cut f filled (b .excess) e slower (p + s .latency * q) q (omega (arith, ap (λ x. x * q) after)),
-            )
+    same-after p q h =
+        elim (le-or-lt p (w * q)) [
+          | inl l ↦
+              omega (
+                arith,
+                cut-early a next (next * s .latency + n) w met-behind p q l,
+                cut-early f next n (e .at) (e .reached) (p + s .latency * q) q (omega (arith, ap (λ x. x * q) after)),
+              )
+          | inr l ↦
+              omega (
+                arith,
+                cut-late a next (next * s .latency + n) w met-behind (b .normal .form .some) p q (le-of-lt l),
+                behind-cut b p q h,
+                nested-cut f filled (b .excess) e slower (p + s .latency * q) q (omega (arith, ap (λ x. x * q) after)),
+              )
+        ]
 
   -- The next server's line meets the first curve before the latency; a bucket gives the first curve's value at the latency.
   module _ (before : e .at < s .latency) (r : Reached f (0 + s .latency * 1) 1) where
     -- that bucket is no faster than the next server: it has come down to the line or below since they met
     latency-bucket-slow : r .bucket .rate ≤ next
     unfolding reads bucketAt
-    latency-bucket-slow = split (le-or-lt (r .bucket .rate) next)
-      where
-        split : (r .bucket .rate ≤ next) ⊎ (next < r .bucket .rate) → r .bucket .rate ≤ next
-        split (inl h) = h
-        split (inr h) =
-            absurd
-            (omega
-            (arith, rearranged h before, r .value-is, e .greatest (0 + s .latency * 1), e .reached, value-least f (e .at) 1 (r .inside)))
+    latency-bucket-slow =
+        not-above (λ h.
+        omega
+        (arith, crosswise h before, r .value-is, e .greatest (0 + s .latency * 1), e .reached, value-least f (e .at) 1 (r .inside)))
 
     -- (every time past the latency is past the meeting)
     met-before : (p q : ℕ) → e .at * q ≤ p + s .latency * q
@@ -304,50 +274,48 @@ module _
 
   -- so in either case the two cuts are one
   next-slower : {m : ℕ} → Excess a next m → OneCut f a (s .latency) next next m
-  next-slower {m} d = split (le-or-lt (s .latency) (e .at))
-    where
-      after : (w : ℕ) × (s .latency + w ≡ e .at) → OneCut f a (s .latency) next next m
-      after (w, h) =
-          let same-excess : m ≡ next * s .latency + n = gap-unique d (excess-behind w (omega arith)) in
-          record { n = n; excess = e; same = rw same-excess (same-after w (omega arith)) }
-
-      split : (s .latency ≤ e .at) ⊎ (e .at < s .latency) → OneCut f a (s .latency) next next m
-      split (inl h) = after (le-dest h)
-      split (inr h) =
-          let r = value-reached f (0 + s .latency * 1) 1 filled in
-          record {
-            n = n;
-            excess = e;
-            same = λ p q l.
-                cut-flat a next (b .normal .form .some) d (latency-flat h r) p q l ∙ behind-is-curve h r p q l ∙ sym (cut-is-curve h r p q);
-          }
+  next-slower {m} d =
+      elim (le-or-lt (s .latency) (e .at)) [
+        | inl h ↦
+            let w = e .at - s .latency in
+            let same-excess : m ≡ next * s .latency + n = gap-unique d (excess-behind w (omega arith)) in
+            record { n = n; excess = e; same = rw same-excess (same-after w (omega arith)) }
+        | inr h ↦
+            let r = value-reached f (0 + s .latency * 1) 1 filled in
+            record {
+              n = n;
+              excess = e;
+              same = λ p q l.
+                  cut-flat a next (b .normal .form .some) d (latency-flat h r) p q l ∙ behind-is-curve h r p q l ∙ sym (cut-is-curve h r p q);
+            }
+      ]
 
 -- whichever server is the slower, the two cuts are one
 one-cut :
     {f a : List Bucket} {s : Server} → 1 ≤ length f → (b : Behind f s a) {next m : ℕ} → Excess a next m
     → OneCut f a (s .latency) (min (s .rate) next) next m
-one-cut {f} {a} {s} filled b {next} {m} e = split (le-or-lt (s .rate) next)
-  where
-    slower : next < s .rate → (k : Bucket) × (k ∈ f) × (k .rate ≤ next) → OneCut f a (s .latency) next next m
-    slower h (k, i, l) = next-slower filled b (excess-exists f next i l .1) h e
-
-    split : (s .rate ≤ next) ⊎ (next < s .rate) → OneCut f a (s .latency) (min (s .rate) next) next m
-    split (inl h) = rw (min-eq-left h) (next-faster b e h)
-    split (inr h) = rw (min-eq-right (le-of-lt h)) (slower h (behind-slow-bucket b e h))
+one-cut {f} {s = s} filled b {next} e =
+    elim (le-or-lt (s .rate) next) [
+      | inl h ↦ rw (min-eq-left h) (next-faster b e h)
+      | inr h ↦
+          let slow = behind-slow-bucket b e h in
+          rw (min-eq-right (le-of-lt h)) (next-slower filled b (excess-exists f next (slow .1) (slow .2) .1) h e)
+    ]
 
 -- what stands behind two servers, one after the other, stands behind the joined server
 pub hop-by-hop : {f a g : List Bucket} {s next : Server} → 1 ≤ length f → Behind f s a → Behind a next g → Behind f (join s next) g
 unfolding join
-hop-by-hop {f} {a} {g} {s} {next} filled first second = step (one-cut filled first (second .excess))
+hop-by-hop {f} {a} {g} {s} {next} filled first second =
+    record { m = c .n; excess = c .excess; normal = record { form = second .normal .form; same = same } }
   where
-    step : OneCut f a (s .latency) (min (s .rate) (next .rate)) (next .rate) (second .m) → Behind f (join s next) g
-    step c = record { m = c .n; excess = c .excess; normal = record { form = second .normal .form; same = same } }
-      where
-        same : (p q : ℕ) → 0 < q → valueAt (cutList f (join s next) (c .n)) p q ≡ valueAt g p q
-        same p q h =
-            let times : p + (s .latency + next .latency) * q ≡ p + next .latency * q + s .latency * q = omega arith in
-            cut-list f (join s next) (c .n) p q ∙ ap (λ x. cutAt f (min (s .rate) (next .rate)) (c .n) x q) times
-            ∙ sym (c .same (p + next .latency * q) q h) ∙ sym (behind-cut second p q h)
+    c : OneCut f a (s .latency) (min (s .rate) (next .rate)) (next .rate) (second .m)
+    c = one-cut filled first (second .excess)
+
+    same : (p q : ℕ) → 0 < q → valueAt (cutList f (join s next) (c .n)) p q ≡ valueAt g p q
+    same p q h =
+        let times : p + (s .latency + next .latency) * q ≡ p + next .latency * q + s .latency * q = omega arith in
+        cut-list f (join s next) (c .n) p q ∙ ap (λ x. cutAt f (min (s .rate) (next .rate)) (c .n) x q) times
+        ∙ sym (c .same (p + next .latency * q) q h) ∙ sym (behind-cut second p q h)
 
 -- there is one list behind a server
 pub behind-unique : {f g h : List Bucket} {s : Server} → Behind f s g → Behind f s h → g ≡ h
@@ -372,28 +340,14 @@ reads-rise f {t} {u} filled h =
     let r = value-reached f u 1 filled in
     omega (arith, r .value-is, value-least f t 1 (r .inside), mul-le-mul-left (r .bucket .rate) h)
 
-module _ {f a : List Bucket} {s : Server} (b : Behind f s a) where
-  -- from a latency later on the curve does not outgrow the one behind the server by more than the server's rate
-  behind-above-later : (v x : Instant) → reads f (v + s .latency + x) ≤ reads a v + s .rate * x
-  unfolding reads bucketAt
-  behind-above-later v x = reached (cut-reached (s .rate) (b .m) (v + s .latency * 1) 1 f)
-    where
-      reached : CutReached f (s .rate) (b .m) (v + s .latency * 1) 1 → valueAt f (v + s .latency + x) 1 ≤ valueAt a v 1 + s .rate * x
-      reached (by-line e) = omega (arith, behind-cut b v 1 (omega arith), e, b .excess .greatest (v + s .latency + x))
-      reached (by-slow k n slow e) =
-          omega (arith, behind-cut b v 1 (omega arith), e, value-least f (v + s .latency + x) 1 n, mul-le-mul-right x slow)
-
-  -- so at no tick is it above what stands behind the server at any tick and what is served from a latency past that tick on
-  behind-above : 1 ≤ length f → (v t : Instant) → reads f t ≤ reads a v + s .rate * (t - (v + s .latency))
-  behind-above filled v t = split (le-or-lt t (v + s .latency))
-    where
-      split : (t ≤ v + s .latency) ⊎ (v + s .latency < t) → reads f t ≤ reads a v + s .rate * (t - (v + s .latency))
-      split (inl h) =
-          omega (arith, reads-rise f {t = t} {u = v + s .latency + 0} filled (omega arith), behind-above-later v 0)
-      split (inr h) = on (le-dest (le-of-lt h))
-        where
-          on : (x : ℕ) × (v + s .latency + x ≡ t) → reads f t ≤ reads a v + s .rate * (t - (v + s .latency))
-          on (x, e) = let y : t - (v + s .latency) ≡ x = omega arith in rw (y, ← e) (behind-above-later v x)
+-- at no tick is it above what stands behind a server at any tick and what is served from a latency past that tick on
+behind-above :
+    {f a : List Bucket} {s : Server} → 1 ≤ length f → Behind f s a → (v t : Instant)
+    → reads f t ≤ reads a v + s .rate * (t - (v + s .latency))
+unfolding reads served
+behind-above {f} {s = s} filled b v t =
+    let past : t - (v + s .latency) ≡ t - v - s .latency = omega arith in
+    rw past (omega (arith, reads-rise f {t = t} {u = v + (t - v)} filled (omega arith), behind-greatest filled b v .greatest (t - v)))
 
 -- the joined server's delay is at most the delays of the two hops together
 pub joined-delay :
@@ -401,30 +355,30 @@ pub joined-delay :
     → 1 ≤ length f → Behind f s a → Delay f s d → Delay a next e → Delay f (join s next) n → n ≤ d + e
 unfolding join served
 joined-delay {f} {a} {s} next {d} {e} filled b first second joined =
-    joined .smallest (d + e) (λ t. enough t (le-or-lt (s .rate) (next .rate)))
+    joined .smallest (d + e) (λ t.
+    elim (le-or-lt (s .rate) (next .rate)) [
+      | inl h ↦ rw (min-eq-left h) (first-slower t _ refl)
+      | inr h ↦ rw (min-eq-right (le-of-lt h)) (second-slower t _ refl)
+    ])
   where
     -- by any tick v behind the first server: the curve's value at t is served by the first in y ticks and by the next in z
     between : (t v y z : ℕ) → t - (v + s .latency) ≤ y → v + e - next .latency ≤ z → reads f t ≤ s .rate * y + next .rate * z
     between t v y z h l =
         omega
-        (arith, behind-above b filled v t, second .suffices v, mul-le-mul-left (s .rate) h, mul-le-mul-left (next .rate) l)
+        (arith, behind-above filled b v t, second .suffices v, mul-le-mul-left (s .rate) h, mul-le-mul-left (next .rate) l)
 
-    first-slower :
-        (t x : ℕ) → t + (d + e) - (s .latency + next .latency) ≡ x → (next .latency ≤ e) ⊎ (e < next .latency)
-        → reads f t ≤ s .rate * x
-    first-slower t x h (inl l) = le-trans (first .suffices t) (mul-le-mul-left (s .rate) (omega arith))
-    first-slower t x h (inr l) = omega (arith, between t (next .latency - e) x 0 (omega arith) (omega arith))
+    first-slower : (t x : ℕ) → t + (d + e) - (s .latency + next .latency) ≡ x → reads f t ≤ s .rate * x
+    first-slower t x h =
+        elim (le-or-lt (next .latency) e) [
+          | inl l ↦ le-trans (first .suffices t) (mul-le-mul-left (s .rate) (omega arith))
+          | inr l ↦ omega (arith, between t (next .latency - e) x 0 (omega arith) (omega arith))
+        ]
 
-    second-slower :
-        (t x : ℕ) → t + (d + e) - (s .latency + next .latency) ≡ x → (s .latency ≤ t + d) ⊎ (t + d < s .latency)
-        → reads f t ≤ next .rate * x
-    second-slower t x h (inl l) = omega (arith, between t (t - s .latency) 0 x (omega arith) (omega arith))
-    second-slower t x h (inr l) =
-        let nothing : t + d - s .latency ≤ 0 = omega arith in
-        omega (arith, first .suffices t, mul-le-mul-left (s .rate) nothing)
-
-    enough :
-        (t : Instant) → (s .rate ≤ next .rate) ⊎ (next .rate < s .rate)
-        → reads f t ≤ min (s .rate) (next .rate) * (t + (d + e) - (s .latency + next .latency))
-    enough t (inl h) = rw (min-eq-left h) (first-slower t _ refl (le-or-lt (next .latency) e))
-    enough t (inr h) = rw (min-eq-right (le-of-lt h)) (second-slower t _ refl (le-or-lt (s .latency) (t + d)))
+    second-slower : (t x : ℕ) → t + (d + e) - (s .latency + next .latency) ≡ x → reads f t ≤ next .rate * x
+    second-slower t x h =
+        elim (le-or-lt (s .latency) (t + d)) [
+          | inl l ↦ omega (arith, between t (t - s .latency) 0 x (omega arith) (omega arith))
+          | inr l ↦
+              let nothing : t + d - s .latency ≤ 0 = omega arith in
+              omega (arith, first .suffices t, mul-le-mul-left (s .rate) nothing)
+        ]

@@ -3,17 +3,17 @@
 -- rounded up is the smallest number that suffices; and what the server left beside a cross curve serves, with that curve, the server had.
 -- Assumes nothing.
 use mathlib.Core.Path.{_≡_, refl, sym, _∙_, ap}
-use mathlib.Core.Logic.{_⊎_, inl, inr}
-use mathlib.Core.List.{List, [], _∷_, List·Memᴰ·head, List·Memᴰ·tail}
+use mathlib.Core.Logic.{inl, inr}
+use mathlib.Core.List.{List, [], _∷_, List·Memᴰ·head, List·Memᴰ·tail, List·Memᴰ·cases-cons, List·Memᴰ·eq-of-singleton}
 use Prim.Native.Nat.{ℕ, _+_, _-_, _*_, _≤_, _<_, min}
-use native.Mathlib.Nat.{le-antisymm, le-of-lt, min-comm, min-eq-left, min-eq-right, min-le-left, min-le-right, add-comm, mul-le-mul-left, mul-le-mul-right, lt-div-mul-add, div-lt-iff-lt-mul}
+use native.Mathlib.Nat.{le-antisymm, le-of-eq, le-of-lt, min-comm, min-eq-left, min-eq-right, min-le-left, min-le-right, add-comm, mul-le-mul-left, mul-le-mul-right, lt-div-mul-add, div-lt-iff-lt-mul}
 use native.Mathlib.Omega.{arith}
 use lib.ListN.{length}
-use Rattle.meaning.specs.Curve.{Bucket, _∈_, bucketAt}
+use Rattle.meaning.specs.Curve.{Bucket, _∈_, bucketAt, Falling}
 use Rattle.meaning.specs.Server.{Server, Instant, served, reads, join, Smallest, last, Residual}
 use Rattle.meaning.specs.Computed.{roundedUp, residual}
 use Rattle.meaning.proofs.Order.{le-or-lt}
-use Rattle.meaning.proofs.Value.{value-least}
+use Rattle.meaning.proofs.Value.{same-rate, value-least}
 
 -- two servers of the same rate and latency are the same
 pub same-server : {s next : Server} → s .rate ≡ next .rate → s .latency ≡ next .latency → s ≡ next
@@ -22,12 +22,9 @@ same-server p q = λ i. record { rate = p i; latency = q i }
 -- what is served by a tick that is y past the latency
 pub served-past : (s : Server) {u : ℕ} (y : ℕ) → u ≡ s .latency + y → served s u ≡ s .rate * y
 unfolding served
-served-past s {u} y e = ap (λ x. s .rate * x) past
-  where
-    past : u - s .latency ≡ y
-    past = omega arith
+served-past s {u} y e = let past : u - s .latency ≡ y = omega arith in ap (λ x. s .rate * x) past
 
--- n is the least of a(y) + b(t-y) over the whole y up to t
+-- n is the least of a(y) + b(t-y) over the whole y up to t.
 pub record Convolution (a b : Instant → ℕ) (t n : ℕ) : Type 0 where
   pub at : Instant
   pub inside : at ≤ t
@@ -46,7 +43,23 @@ serves-alone r' e e' none = rw (e, e', none) (omega arith)
 -- the joined server serves by each tick the min-plus convolution of what the two serve
 pub join-convolution : (s next : Server) (t : ℕ) → Convolution (served s) (served next) t (served (join s next) t)
 unfolding served join
-join-convolution s next t = split (le-or-lt (s .rate) (next .rate))
+join-convolution s next t =
+    elim (le-or-lt (s .rate) (next .rate)) [
+      | inl h ↦
+          record {
+            at = t - next .latency;
+            inside = omega arith;
+            reached = serves-alone (next .rate) (min-eq-left h) (omega arith) (omega arith);
+            least = every;
+          }
+      | inr h ↦
+          record {
+            at = min (s .latency) t;
+            inside = omega arith;
+            reached = serves-alone (s .rate) (min-eq-right (le-of-lt h)) (omega arith) (omega arith) ∙ add-comm _ _;
+            least = every;
+          }
+    ]
   where
     every :
         (y : ℕ) → y ≤ t
@@ -54,23 +67,6 @@ join-convolution s next t = split (le-or-lt (s .rate) (next .rate))
         ≤ s .rate * (y - s .latency) + next .rate * (t - y - next .latency)
     every y h =
         slower-serves-less (y - s .latency) (t - y - next .latency) (min-le-left _ _) (min-le-right _ _) (omega arith)
-
-    split :
-        (s .rate ≤ next .rate) ⊎ (next .rate < s .rate) → Convolution (served s) (served next) t (served (join s next) t)
-    split (inl h) =
-        record {
-          at = t - next .latency;
-          inside = omega arith;
-          reached = serves-alone (next .rate) (min-eq-left h) (omega arith) (omega arith);
-          least = every;
-        }
-    split (inr h) =
-        record {
-          at = min (s .latency) t;
-          inside = omega arith;
-          reached = serves-alone (s .rate) (min-eq-right (le-of-lt h)) (omega arith) (omega arith) ∙ add-comm _ _;
-          least = every;
-        }
 
 -- joining in the other order gives the same server
 pub join-order : (s next : Server) → join s next ≡ join next s
@@ -102,6 +98,16 @@ last-inside [] h = absurd (omega arith)
 last-inside (k ∷ []) h = List·Memᴰ·head refl
 last-inside (k ∷ j ∷ f) h = List·Memᴰ·tail (last-inside (j ∷ f) (omega arith))
 
+-- no bucket's rate is below the last one's
+pub last-slowest : (f : List Bucket) → Falling f → {k : Bucket} → k ∈ f → last f .rate ≤ k .rate
+unfolding Falling last
+last-slowest (j ∷ []) falling m = le-of-eq (sym (same-rate (List·Memᴰ·eq-of-singleton m)))
+last-slowest (j ∷ i ∷ f) falling m =
+    elim (List·Memᴰ·cases-cons m) [
+      | inl e ↦ rw e (le-of-lt (falling .0 (last (i ∷ f)) (last-inside (i ∷ f) (omega arith))))
+      | inr n ↦ last-slowest (i ∷ f) (falling .1) n
+    ]
+
 -- the computed server is the one left beside the cross curve
 pub residual-is : (cross : List Bucket) (s : Server) → 1 ≤ s .rate → Residual cross s (residual cross s)
 unfolding residual
@@ -118,10 +124,7 @@ residual-unique a b =
 -- take in u
 shares :
     {r y : ℕ} (rest r' b x u : ℕ) → r ≡ rest + r' → y ≡ x + u → b ≤ r * x → rest * u + (r' * u + b * 1) ≤ r * y
-shares {r} rest r' b x u e e' enough = rw (e, e') (omega (arith, bound))
-  where
-    bound : b ≤ (rest + r') * x
-    bound = rw e at enough
+shares {r} rest r' b x u e e' enough = rw (e, e') (omega (arith, rw e at enough))
 
 -- past its latency L the server left never serves more by tick t than R·(t-T) minus the cross curve's value at t-L
 pub residual-law :

@@ -5,6 +5,7 @@ pub mod Value
 pub mod Lowest
 pub mod Unique
 pub mod Neighbours
+pub mod Stable
 pub mod Usefulness
 pub mod Normal
 pub mod Curves

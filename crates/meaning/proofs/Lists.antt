@@ -1,16 +1,28 @@
--- Small laws of lists: the numbers of a list of buckets and back, buckets in range, and what is written over the start of a list.
+-- Small laws of lists: what each element has, the numbers of a list of buckets and back, buckets by their positions, buckets in
+-- range, and what is written over the start of a list.
 -- Assumes nothing.
-use mathlib.Core.Path.{_≡_, refl, sym, _∙_, ap}
-use mathlib.Core.Logic.{_⊎_, inl, inr}
-use mathlib.Core.List.{List, [], _∷_, _++_, List·Memᴰ·cases-cons}
-use Prim.Native.Nat.{ℕ, zero, suc, _+_, _-_, _*_, _%_, _^_, _≤_, _<_}
+use mathlib.Core.Path.{_≡_, refl, sym, _∙_, ap, subst}
+use mathlib.Core.Logic.{inl, inr}
+use mathlib.Core.List.{List, [], _∷_, _++_, List·Memᴰ, List·Memᴰ·head, List·Memᴰ·tail, List·Memᴰ·cases-cons, List·Memᴰ·append-cases}
+use Prim.Native.Nat.{ℕ, zero, suc, _+_, _-_, _*_, _%_, _≤_, _<_}
 use native.Mathlib.Numerals.{unary-clauses}
 use native.Mathlib.Omega.{arith}
 use lib.ListN.{length, take, drop, getD, length-append, length-drop}
 use lib.Seq.{take-append-seam, drop-append-seam, drop-append-add}
-use Rattle.meaning.specs.Curve.{Bucket, _∈_, buckets, flat}
+use Rattle.meaning.specs.Curve.{Bucket, _∈_, buckets, flat, Falling}
 use Rattle.meaning.specs.Refusal.{InRange, AllInRange, over}
-use Rattle.meaning.proofs.Order.{le-or-lt}
+
+-- ---- What each element has.
+
+module _ {A : Type 0} {P : A → Type 0} where
+  -- what the first has and each of the others, each has
+  pub cons-each : {x : A} {l : List A} → P x → ((k : A) → List·Memᴰ k l → P k) → (k : A) → List·Memᴰ k (x ∷ l) → P k
+  cons-each first rest k m = elim (List·Memᴰ·cases-cons m) [ inl e ↦ subst P (sym e) first | inr n ↦ rest k n ]
+
+  -- what each of two lists' elements has, each of both together has
+  pub append-each :
+      {l r : List A} → ((k : A) → List·Memᴰ k l → P k) → ((k : A) → List·Memᴰ k r → P k) → (k : A) → List·Memᴰ k (l ++ r) → P k
+  append-each {l} left right k m = elim (List·Memᴰ·append-cases l m) [ inl n ↦ left k n | inr n ↦ right k n ]
 
 -- ---- Numbers and buckets.
 
@@ -40,32 +52,34 @@ flat-rate [] i k h = absurd (omega arith)
 flat-rate (j ∷ f) zero k h = refl
 flat-rate (j ∷ f) (suc i) k h = simp unary-clauses (flat-rate f i k (omega arith))
 
+-- ---- Buckets by their positions, counted from 0.
+
+-- the bucket at a position of a list stands in it
+pub at-inside : (f : List Bucket) (i : ℕ) (k : Bucket) → i < length f → getD f i k ∈ f
+at-inside [] i k h = absurd (omega arith)
+at-inside (j ∷ f) zero k h = List·Memᴰ·head refl
+at-inside (j ∷ f) (suc i) k h = List·Memᴰ·tail (at-inside f i k (omega arith))
+
+-- where rates fall strictly, the bucket at a later position has the lower rate
+pub falling-at :
+    (f : List Bucket) → Falling f → (k : Bucket) (i j : ℕ) → i < j → j < length f → getD f j k .rate < getD f i k .rate
+unfolding Falling
+falling-at [] h k i j l m = absurd (omega arith)
+falling-at (b ∷ f) h k i zero l m = absurd (omega arith)
+falling-at (b ∷ f) h k zero (suc j) l m = h .0 (getD f j k) (at-inside f j k (omega arith))
+falling-at (b ∷ f) h k (suc i) (suc j) l m = falling-at f (h .1) k i j (omega arith) (omega arith)
+
 -- ---- In range.
 
--- each bucket in range, one after the other
+-- Each bucket in range, one after the other.
 abbrev pub EachInRange : List Bucket → Type 0
 EachInRange [] = Unit {0}
 EachInRange (k ∷ f) = InRange k × EachInRange f
 
+-- they are then all in range
 pub all-in-range : (f : List Bucket) → EachInRange f → AllInRange f
 all-in-range [] each k m = elim m [ ]
-all-in-range (j ∷ f) each k m = split (all-in-range f (each .1) k) (List·Memᴰ·cases-cons m)
-  where
-    split : (k ∈ f → InRange k) → (k ≡ j) ⊎ (k ∈ f) → InRange k
-    split rest (inl e) = rw e (each .0)
-    split rest (inr n) = rest n
-
--- what is not out of range is in range
-pub range-stable : {f : List Bucket} → ((AllInRange f → ⊥) → ⊥) → AllInRange f
-range-stable {f} not-out k m =
-    record {
-      rate-fits = stable (λ over. not-out (λ all. over (all k m .rate-fits))) (le-or-lt (2 ^ 20) (k .rate));
-      burst-fits = stable (λ over. not-out (λ all. over (all k m .burst-fits))) (le-or-lt (2 ^ 40) (k .burst));
-    }
-  where
-    stable : {a b : ℕ} → ((a < b → ⊥) → ⊥) → (b ≤ a) ⊎ (a < b) → a < b
-    stable h (inl l) = absurd (h (omega arith))
-    stable h (inr l) = l
+all-in-range (j ∷ f) each k m = cons-each (each .0) (all-in-range f (each .1)) k m
 
 -- ---- Written over the start of a list.
 
@@ -85,25 +99,14 @@ module _ (answer before : List ℕ) where
   unfolding over
   over-length h = omega (arith, length-append answer (drop (length answer) before), length-drop (length answer) before)
 
--- a curve that is written is read back
-pub over-read : (f : List Bucket) (before : List ℕ) → buckets (take (2 * length f) (over (flat f) before)) ≡ f
-over-read f before = rw (← flat-length f) (rw over-start (buckets-flat f))
-
 -- ---- Lists of one length.
 
 -- behind two lists of one length the same numbers follow
 pub drop-behind : (x y rest : List ℕ) (n : ℕ) → length x ≡ length y → length x ≤ n → drop n (x ++ rest) ≡ drop n (y ++ rest)
-drop-behind x y rest n same h =
-    ap (λ (m : ℕ). drop m (x ++ rest)) e
-    ∙ drop-append-add x rest (n - length x)
-    ∙ sym (drop-append-add y rest (n - length x))
-    ∙ ap (λ (m : ℕ). drop m (y ++ rest)) (sym e′)
+drop-behind x y rest n same h = past x (omega arith) ∙ sym (past y (omega arith))
   where
-    e : n ≡ length x + (n - length x)
-    e = omega arith
-
-    e′ : n ≡ length y + (n - length x)
-    e′ = omega arith
+    past : (l : List ℕ) → n ≡ length l + (n - length x) → drop n (l ++ rest) ≡ drop (n - length x) rest
+    past l e = ap (λ (m : ℕ). drop m (l ++ rest)) e ∙ drop-append-add l rest (n - length x)
 
 -- there is one empty list
 pub empty-same : (x y : List ℕ) → length x ≡ 0 → length y ≡ 0 → x ≡ y

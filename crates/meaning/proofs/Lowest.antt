@@ -2,15 +2,16 @@
 -- is lowest a little later, at (N·p + 1)/(N·q), is lowest at p/q too, and no other bucket is as low at that later time.
 -- Assumes nothing.
 use mathlib.Core.Path.{_≡_, refl, sym, ap}
-use mathlib.Core.Logic.{_⊎_, inl, inr}
-use mathlib.Core.List.{List, [], _∷_, List·Memᴰ·cases-cons}
+use mathlib.Core.Logic.{inl, inr, Dec·and}
+use mathlib.Core.List.{List, [], _∷_}
 use Prim.Native.Nat.{ℕ, _+_, _*_, _≤_, _<_}
-use native.Mathlib.Nat.{le-of-eq, le-of-lt, le-trans, le-antisymm, lt-of-mul-lt-mul-left, eq-of-mul-eq-mul-right, mul-pos}
-use native.Mathlib.Decide.{ℕ-discrete}
+use native.Mathlib.Nat.{le-of-eq, le-of-lt, le-trans, le-antisymm, lt-of-mul-lt-mul-left, eq-of-mul-eq-mul-right, eq-or-lt-of-le, mul-pos}
+use native.Mathlib.Decide.{ℕ-discrete, map-dec}
 use native.Mathlib.Omega.{arith}
 use lib.ListN.{length}
 use Rattle.meaning.specs.Curve.{Bucket, _∈_, bucketAt, valueAt, Useful}
-use Rattle.meaning.proofs.Value.{Reached, same-bucket-at, value-least, value-reached, value-unique}
+use Rattle.meaning.proofs.Lists.{cons-each}
+use Rattle.meaning.proofs.Value.{Reached, same-rate, same-bucket-at, value-least, value-reached, value-unique}
 
 -- buckets of the same rate and the same burst are the same
 pub same-bucket : {k j : Bucket} → k .rate ≡ j .rate → k .burst ≡ j .burst → k ≡ j
@@ -18,23 +19,33 @@ same-bucket r b = λ i. record { rate = r i; burst = b i }
 
 -- two buckets are the same or not
 pub same-or-other : (k j : Bucket) → Dec (k ≡ j)
-same-or-other k j = split (ℕ-discrete (k .rate) (j .rate)) (ℕ-discrete (k .burst) (j .burst))
-  where
-    split : Dec (k .rate ≡ j .rate) → Dec (k .burst ≡ j .burst) → Dec (k ≡ j)
-    split (yes r) (yes b) = yes (same-bucket r b)
-    split (yes r) (no b) = no (λ e. b (ap (λ (x : Bucket). x .burst) e))
-    split (no r) b = no (λ e. r (ap (λ (x : Bucket). x .rate) e))
+same-or-other k j =
+    map-dec (λ e. same-bucket (e .0) (e .1)) (λ e. (same-rate e, ap (λ (x : Bucket). x .burst) e))
+    (Dec·and (ℕ-discrete (k .rate) (j .rate)) (ℕ-discrete (k .burst) (j .burst)))
+
+-- buckets of different rates are not the same
+pub other-rate : {k j : Bucket} → j .rate < k .rate → k ≡ j → ⊥
+other-rate falls e = omega (arith, same-rate e)
 
 -- what is not above the others of a list is not above any bucket of it
 pub least-of-others :
     (f : List Bucket) (p q : ℕ) {k : Bucket}
     → ((j : Bucket) → j ∈ f → (j ≡ k → ⊥) → bucketAt k p q ≤ bucketAt j p q) → (j : Bucket) → j ∈ f
     → bucketAt k p q ≤ bucketAt j p q
-least-of-others f p q {k} others j m = split (same-or-other j k)
-  where
-    split : Dec (j ≡ k) → bucketAt k p q ≤ bucketAt j p q
-    split (yes e) = le-of-eq (same-bucket-at p q (sym e))
-    split (no other) = others j m other
+least-of-others f p q {k} others j m =
+    elim (same-or-other j k) [ yes e ↦ le-of-eq (same-bucket-at p q (sym e)) | no other ↦ others j m other ]
+
+-- what is useful is useful in another list too, if it is below every other bucket of that at the same time
+unfoldable pub useful-there :
+    {f g : List Bucket} {k : Bucket} (u : Useful f k)
+    → ((j : Bucket) → j ∈ g → (j ≡ k → ⊥) → bucketAt k (u .p) (u .q) < bucketAt j (u .p) (u .q)) → Useful g k
+useful-there u below =
+    record { p = u .p; q = u .q; p-positive = u .p-positive; q-positive = u .q-positive; below = below }
+
+-- so it is useful among fewer
+unfoldable pub useful-fewer : {f g : List Bucket} {k : Bucket} → ((j : Bucket) → j ∈ g → j ∈ f) → Useful f k → Useful g k
+unfolding useful-there
+useful-fewer fewer u = useful-there u (λ j m other. u .below j (fewer j m) other)
 
 -- a useful bucket is not above any at the time at which it is useful
 pub useful-least :
@@ -42,21 +53,17 @@ pub useful-least :
     → bucketAt k (u .p) (u .q) ≤ bucketAt j (u .p) (u .q)
 useful-least {f} u = least-of-others f (u .p) (u .q) (λ j m other. le-of-lt (u .below j m other))
 
--- a number above every rate of a list
+-- A number above every rate of a list.
 pub record RatesBelow (f : List Bucket) : Type 0 where
   pub over : ℕ
   pub above : (k : Bucket) → k ∈ f → k .rate < over
 
+-- there is one
 pub rates-below : (f : List Bucket) → RatesBelow f
 rates-below [] = record { over = 0; above = λ k m. elim m [ ] }
-rates-below (k ∷ f) = extend (rates-below f)
-  where
-    split : (r : RatesBelow f) (j : Bucket) → (j ≡ k) ⊎ (j ∈ f) → j .rate < k .rate + 1 + r .over
-    split r j (inl e) = omega (arith, ap (λ (x : Bucket). x .rate) e)
-    split r j (inr m) = omega (arith, r .above j m)
-
-    extend : RatesBelow f → RatesBelow (k ∷ f)
-    extend r = record { over = k .rate + 1 + r .over; above = λ j m. split r j (List·Memᴰ·cases-cons m) }
+rates-below (k ∷ f) =
+    let r = rates-below f in
+    record { over = k .rate + 1 + r .over; above = cons-each (omega arith) (λ j m. omega (arith, r .above j m)) }
 
 -- the value at (N·p + 1)/(N·q)
 pub bucket-later : (k : Bucket) (n p q : ℕ) → bucketAt k (n * p + 1) (n * q) ≡ n * bucketAt k p q + k .rate
@@ -91,13 +98,7 @@ later-same k j n p q hq hk hj e =
     let scaled = ap (λ (v : ℕ). n * v) now in
     meet-same p q hq (omega (arith, bucket-later k n p q, bucket-later j n p q)) now
 
--- so other buckets do not meet there
-later-apart :
-    (k j : Bucket) (n p q : ℕ) → 0 < q → k .rate < n → j .rate < n → (k ≡ j → ⊥)
-    → bucketAt k (n * p + 1) (n * q) ≡ bucketAt j (n * p + 1) (n * q) → ⊥
-later-apart k j n p q hq hk hj other e = other (later-same k j n p q hq hk hj e)
-
--- a useful bucket that has the value at p/q
+-- A useful bucket that has the value at p/q.
 pub record Lowest (f : List Bucket) (p q : ℕ) : Type 0 where
   pub bucket : Bucket
   pub inside : bucket ∈ f
@@ -127,8 +128,10 @@ module _ {f : List Bucket} (p q : ℕ) (hq : 0 < q) (b : RatesBelow f) (r : Reac
           (j : Bucket) → j ∈ f → (j ≡ r .bucket → ⊥)
           → bucketAt (r .bucket) (b .over * p + 1) (b .over * q) < bucketAt j (b .over * p + 1) (b .over * q)
       below j m other =
-          let apart = later-apart j (r .bucket) (b .over) p q hq (b .above j m) (b .above _ (r .inside)) other in
-          omega (arith, later-least j m)
+          elim (eq-or-lt-of-le (later-least j m)) [
+            | inl e ↦ absurd (other (sym (later-same (r .bucket) j (b .over) p q hq (b .above _ (r .inside)) (b .above j m) e)))
+            | inr l ↦ l
+          ]
 
   -- it has the value at p/q
   later-lowest : Lowest f p q

@@ -1,23 +1,24 @@
--- Neighbours are enough to check normal form: a list is in normal form exactly when rates fall strictly and the crossings of
--- neighbours come one strictly after the other, the first after time 0. A bucket is then strictly lowest between its crossing
--- with the bucket before it and its crossing with the bucket after it.
+-- Two buckets that cross: which of them is below, before the crossing and after it. And neighbours are enough to check normal
+-- form: a list is in normal form exactly when rates fall strictly and the crossings of neighbours come one strictly after the
+-- other, the first after time 0. A bucket is then strictly lowest between its crossing with the bucket before it and its crossing
+-- with the bucket after it.
 -- Assumes nothing.
-use mathlib.Core.Path.{_≡_, refl, sym, ap, subst}
-use mathlib.Core.Logic.{_⊎_, inl, inr}
-use mathlib.Core.Bool.{Bool, true, false, _&&_}
-use mathlib.Core.List.{List, [], _∷_, List·Memᴰ·head, List·Memᴰ·tail, List·Memᴰ·cases-cons, List·Memᴰ·eq-of-singleton}
+use mathlib.Core.Path.{_≡_, refl, sym, _∙_, ap}
+use mathlib.Core.Logic.{_↔_}
+use mathlib.Core.Bool.{true, false, true≢false, and-eq-true-iff}
+use mathlib.Core.List.{List, [], _∷_, List·Memᴰ·head, List·Memᴰ·tail, List·Memᴰ·not-nil}
 use Prim.Native.Nat.{ℕ, _+_, _-_, _*_, _≤_, _<_}
 use native.Mathlib.Nat.{le-of-lt, lt-trans, lt-of-mul-lt-mul-left, lt-of-mul-lt-mul-right, mul-le-mul-left, mul-le-mul-right, mul-lt-mul-of-pos-left, mul-pos, sub-eq-zero-of-le, add-sub-of-le}
 use native.Mathlib.Omega.{arith}
 use borrow.Author.Tests.{ltb-true, lt-ltb}
 use Rattle.meaning.specs.Curve.{Bucket, _∈_, bucketAt, Falling, Useful, NormalForm}
 use Rattle.meaning.specs.Computed.{crossingsRise, isNormal}
-use Rattle.meaning.proofs.Order.{le-or-lt}
-use Rattle.meaning.proofs.Value.{same-bucket-at}
-use Rattle.meaning.proofs.Lowest.{useful-least}
+use Rattle.meaning.proofs.Order.{not-above}
+use Rattle.meaning.proofs.Lists.{cons-each}
+use Rattle.meaning.proofs.Lowest.{other-rate, useful-least, useful-there, useful-fewer}
 
 -- p/q ≤ x/y and x/y < u/v give p/q < u/v
-earlier-trans : (p q x y u v : ℕ) → 0 < q → p * y ≤ x * q → x * v < u * y → p * v < u * q
+pub earlier-trans : (p q x y u v : ℕ) → 0 < q → p * y ≤ x * q → x * v < u * y → p * v < u * q
 earlier-trans p q x y u v hq h l =
     lt-of-mul-lt-mul-left y (omega (arith, mul-le-mul-left v h, mul-lt-mul-of-pos-left l hq))
 
@@ -30,44 +31,44 @@ mediant-before : (x y u v : ℕ) → x * v < u * y → (x + u) * v < u * (y + v)
 mediant-before x y u v h = omega arith
 
 -- Two buckets (r + v, b) and (r, b + u) meet at u/v.
-record Meet (k j : Bucket) (u v : ℕ) : Type 0 where
-  rates : j .rate + v ≡ k .rate
-  bursts : k .burst + u ≡ j .burst
+pub record Meet (k j : Bucket) (u v : ℕ) : Type 0 where
+  pub rates : j .rate + v ≡ k .rate
+  pub bursts : k .burst + u ≡ j .burst
 
 -- so do two buckets of which the second has the smaller rate and the larger burst
-meet : (k j : Bucket) → j .rate ≤ k .rate → k .burst ≤ j .burst → Meet k j (j .burst - k .burst) (k .rate - j .rate)
+pub meet : (k j : Bucket) → j .rate ≤ k .rate → k .burst ≤ j .burst → Meet k j (j .burst - k .burst) (k .rate - j .rate)
 meet k j falls rises = record { rates = add-sub-of-le falls; bursts = add-sub-of-le rises }
 
 module _ {k j : Bucket} {u v : ℕ} (c : Meet k j u v) (p q : ℕ) where
-  -- before the crossing the first is below
-  below-if-before : p * v < u * q → bucketAt k p q < bucketAt j p q
+  -- by how much the first is below the second, or above it
+  apart : bucketAt k p q + u * q ≡ bucketAt j p q + p * v
   unfolding bucketAt
-  below-if-before h = omega (arith, ap (λ (r : ℕ). r * p) (c .rates), ap (λ (b : ℕ). b * q) (c .bursts))
+  apart = omega (arith, ap (λ (r : ℕ). r * p) (c .rates), ap (λ (b : ℕ). b * q) (c .bursts))
+
+  -- they have one value exactly at the crossing
+  pub meet-at : bucketAt k p q ≡ bucketAt j p q ↔ (u * q ≡ v * p)
+  meet-at = (λ e. omega (arith, apart), λ e. omega (arith, apart))
+
+  -- before the crossing the first is below
+  pub below-if-before : p * v < u * q → bucketAt k p q < bucketAt j p q
+  below-if-before h = omega (arith, apart)
 
   -- and only there
-  before-if-below : bucketAt k p q < bucketAt j p q → p * v < u * q
-  unfolding bucketAt
-  before-if-below h = omega (arith, ap (λ (r : ℕ). r * p) (c .rates), ap (λ (b : ℕ). b * q) (c .bursts))
+  pub before-if-below : bucketAt k p q < bucketAt j p q → p * v < u * q
+  before-if-below h = omega (arith, apart)
 
   -- after the crossing the second is below
-  below-if-after : u * q < p * v → bucketAt j p q < bucketAt k p q
-  unfolding bucketAt
-  below-if-after h = omega (arith, ap (λ (r : ℕ). r * p) (c .rates), ap (λ (b : ℕ). b * q) (c .bursts))
+  pub below-if-after : u * q < p * v → bucketAt j p q < bucketAt k p q
+  below-if-after h = omega (arith, apart)
 
   -- and only there
-  after-if-below : bucketAt j p q < bucketAt k p q → u * q < p * v
-  unfolding bucketAt
-  after-if-below h = omega (arith, ap (λ (r : ℕ). r * p) (c .rates), ap (λ (b : ℕ). b * q) (c .bursts))
+  pub after-if-below : bucketAt j p q < bucketAt k p q → u * q < p * v
+  after-if-below h = omega (arith, apart)
 
--- where a steeper bucket is below, its burst is the smaller
-below-rises : (k j : Bucket) (p q : ℕ) → j .rate < k .rate → bucketAt k p q < bucketAt j p q → k .burst < j .burst
+-- where a bucket is below one that is no steeper, its burst is the smaller
+pub below-rises : (k j : Bucket) (p q : ℕ) → j .rate ≤ k .rate → bucketAt k p q < bucketAt j p q → k .burst < j .burst
 unfolding bucketAt
-below-rises k j p q falls h = lt-of-mul-lt-mul-right q (omega (arith, mul-le-mul-right p (le-of-lt falls)))
-
--- both of two tests pass
-both-true : (a b : Bool) → (a && b) ≡ true → (a ≡ true) × (b ≡ true)
-both-true true b e = (refl, e)
-both-true false b e = let z : _≡_ {A = ℕ} 0 1 = cc in absurd (omega arith)
+below-rises k j p q flat h = lt-of-mul-lt-mul-right q (omega (arith, mul-le-mul-right p flat))
 
 -- One step of the test: bucket k, the crossing x/y before it, the next bucket j and the buckets f after that.
 record Step (k : Bucket) (x y : ℕ) (j : Bucket) (f : List Bucket) : Type 0 where
@@ -79,8 +80,8 @@ record Step (k : Bucket) (x y : ℕ) (j : Bucket) (f : List Bucket) : Type 0 whe
 step-of : (k : Bucket) (x y : ℕ) (j : Bucket) (f : List Bucket) → crossingsRise k x y (j ∷ f) ≡ true → Step k x y j f
 unfolding crossingsRise
 step-of k x y j f h =
-    let a = both-true _ _ h in
-    let b = both-true _ _ (a .0) in
+    let a = and-eq-true-iff _ _ .0 h in
+    let b = and-eq-true-iff _ _ .0 (a .0) in
     record { falls = ltb-true _ _ (b .0); later = ltb-true _ _ (b .1); rest = a .1 }
 
 -- a step passes the test
@@ -91,25 +92,17 @@ step-to k x y j f s = rw (lt-ltb _ _ (s .falls), lt-ltb _ _ (s .later)) (s .rest
 module _ {k : Bucket} {x y : ℕ} {j : Bucket} {f : List Bucket} (s : Step k x y j f) where
   -- the two buckets of a step meet
   step-meet : Meet k j (j .burst - k .burst) (k .rate - j .rate)
-  step-meet = meet k j (le-of-lt (s .falls)) (split (le-or-lt (j .burst) (k .burst)))
-    where
-      split : (j .burst ≤ k .burst) ⊎ (k .burst < j .burst) → k .burst ≤ j .burst
-      split (inl h) = absurd (omega (arith, rw (sub-eq-zero-of-le h) at (s .later)))
-      split (inr h) = le-of-lt h
+  step-meet =
+      meet k j (le-of-lt (s .falls)) (not-above (λ h. omega (arith, rw (sub-eq-zero-of-le (le-of-lt h)) at (s .later))))
 
   -- before the crossing the first bucket is below the second, and so below what the second is below
   step-below :
       (p q : ℕ) → p * (k .rate - j .rate) < (j .burst - k .burst) * q
       → ((l : Bucket) → l ∈ f → bucketAt j p q < bucketAt l p q) → (l : Bucket) → l ∈ (j ∷ f)
       → bucketAt k p q < bucketAt l p q
-  step-below p q earlier rest l m = split (List·Memᴰ·cases-cons m)
-    where
-      next : bucketAt k p q < bucketAt j p q
-      next = below-if-before step-meet p q earlier
-
-      split : (l ≡ j) ⊎ (l ∈ f) → bucketAt k p q < bucketAt l p q
-      split (inl e) = omega (arith, next, same-bucket-at p q e)
-      split (inr n) = lt-trans next (rest l n)
+  step-below p q earlier rest =
+      let next = below-if-before step-meet p q earlier in
+      cons-each next (λ l n. lt-trans next (rest l n))
 
 -- up to the crossing before it a bucket is below every later one
 rising-below :
@@ -125,14 +118,10 @@ rising-below (j ∷ f) k x y p q hq h early l m =
 rising-falling : (f : List Bucket) (k : Bucket) (x y : ℕ) → crossingsRise k x y f ≡ true → Falling (k ∷ f)
 unfolding Falling
 rising-falling [] k x y h = (λ l m. elim m [ ], tt)
-rising-falling (j ∷ f) k x y h = let s = step-of k x y j f h in extend s (rising-falling f j _ _ (s .rest))
-  where
-    extend : Step k x y j f → Falling (j ∷ f) → Falling (k ∷ j ∷ f)
-    extend s rest = (λ l m. split l (List·Memᴰ·cases-cons m), rest)
-      where
-        split : (l : Bucket) → (l ≡ j) ⊎ (l ∈ f) → l .rate < k .rate
-        split l (inl e) = omega (arith, s .falls, ap (λ (b : Bucket). b .rate) e)
-        split l (inr n) = lt-trans (rest .0 l n) (s .falls)
+rising-falling (j ∷ f) k x y h =
+    let s = step-of k x y j f h in
+    let rest = rising-falling f j _ _ (s .rest) in
+    (cons-each (s .falls) (λ l n. lt-trans (rest .0 l n) (s .falls)), rest)
 
 -- A bucket is useful at a time after x/y.
 record UsefulAfter (x y : ℕ) (f : List Bucket) (k : Bucket) : Type 0 where
@@ -151,14 +140,10 @@ useful-first k f x y p q hq after below =
             q = q;
             p-positive = lt-of-mul-lt-mul-right y (omega arith);
             q-positive = hq;
-            below = λ l m other. split l other (List·Memᴰ·cases-cons m);
+            below = cons-each (λ other. absurd (other refl)) (λ l n other. below l n);
           };
       after = after;
     }
-  where
-    split : (l : Bucket) → (l ≡ k → ⊥) → (l ≡ k) ⊎ (l ∈ f) → bucketAt k p q < bucketAt l p q
-    split l other (inl e) = absurd (other e)
-    split l other (inr n) = below l n
 
 -- the first bucket is lowest between the crossing before it and the one after it
 rising-first :
@@ -175,51 +160,29 @@ rising-first (j ∷ f) k x y hy h =
 rising-later :
     {k : Bucket} {x y : ℕ} {j : Bucket} {f : List Bucket} → Step k x y j f → 0 < y → (i : Bucket)
     → UsefulAfter (j .burst - k .burst) (k .rate - j .rate) (j ∷ f) i → UsefulAfter x y (k ∷ j ∷ f) i
-rising-later {k} {x} {y} {j} {f} s hy i w =
+unfolding useful-there
+rising-later {j = j} s hy i w =
+    let u = w .useful in
+    let second = below-if-after (step-meet s) (u .p) (u .q) (w .after) in
     record {
-      useful =
-          record {
-            p = u .p;
-            q = u .q;
-            p-positive = u .p-positive;
-            q-positive = u .q-positive;
-            below = λ l m other. split l other (List·Memᴰ·cases-cons m);
-          };
-      after = earlier-trans x y _ _ (u .p) (u .q) hy (le-of-lt (s .later)) (w .after);
+      useful = useful-there u (cons-each (λ other. omega (arith, useful-least u j (List·Memᴰ·head refl), second)) (u .below));
+      after = earlier-trans _ _ _ _ (u .p) (u .q) hy (le-of-lt (s .later)) (w .after);
     }
-  where
-    u : Useful (j ∷ f) i
-    u = w .useful
-
-    second : bucketAt j (u .p) (u .q) < bucketAt k (u .p) (u .q)
-    second = below-if-after (step-meet s) (u .p) (u .q) (w .after)
-
-    split : (l : Bucket) → (l ≡ i → ⊥) → (l ≡ k) ⊎ (l ∈ (j ∷ f)) → bucketAt i (u .p) (u .q) < bucketAt l (u .p) (u .q)
-    split l other (inl e) =
-        omega (arith, useful-least u j (List·Memᴰ·head refl), second, same-bucket-at (u .p) (u .q) e)
-    split l other (inr n) = u .below l n other
 
 -- every bucket is lowest at some time after the crossing before the first
 rising-useful :
     (f : List Bucket) (k : Bucket) (x y : ℕ) → 0 < y → crossingsRise k x y f ≡ true → (i : Bucket) → i ∈ (k ∷ f)
     → UsefulAfter x y (k ∷ f) i
-rising-useful [] k x y hy h i m =
-    subst (UsefulAfter x y (k ∷ [])) (sym (List·Memᴰ·eq-of-singleton m)) (rising-first [] k x y hy h)
-rising-useful (j ∷ f) k x y hy h i m =
+rising-useful [] k x y hy h = cons-each (rising-first [] k x y hy h) (λ l n. absurd (List·Memᴰ·not-nil n))
+rising-useful (j ∷ f) k x y hy h =
     let s = step-of k x y j f h in
-    split s (λ n. rising-useful f j _ _ (omega (arith, s .falls)) (s .rest) i n) (List·Memᴰ·cases-cons m)
-  where
-    split :
-        (s : Step k x y j f)
-        → (i ∈ (j ∷ f) → UsefulAfter (j .burst - k .burst) (k .rate - j .rate) (j ∷ f) i) → (i ≡ k) ⊎ (i ∈ (j ∷ f))
-        → UsefulAfter x y (k ∷ j ∷ f) i
-    split s rest (inl e) = subst (UsefulAfter x y (k ∷ j ∷ f)) (sym e) (rising-first (j ∷ f) k x y hy h)
-    split s rest (inr n) = rising-later s hy i (rest n)
+    cons-each (rising-first (j ∷ f) k x y hy h)
+    (λ l n. rising-later s hy l (rising-useful f j _ _ (omega (arith, s .falls)) (s .rest) l n))
 
 -- the neighbours' test passes only lists in normal form
 pub neighbours-sound : (f : List Bucket) → isNormal f ≡ true → NormalForm f
 unfolding isNormal
-neighbours-sound [] h = let z : _≡_ {A = ℕ} 0 1 = cc in absurd (omega arith)
+neighbours-sound [] h = absurd (true≢false (sym h))
 neighbours-sound (k ∷ f) h =
     record {
       some = omega arith;
@@ -227,31 +190,16 @@ neighbours-sound (k ∷ f) h =
       useful = λ i m. rising-useful f k 0 1 (omega arith) h i m .useful;
     }
 
--- what is useful in a list is useful without its first bucket
-fewer-useful : {k i : Bucket} {f : List Bucket} → Useful (k ∷ f) i → Useful f i
-fewer-useful u =
-    record {
-      p = u .p;
-      q = u .q;
-      p-positive = u .p-positive;
-      q-positive = u .q-positive;
-      below = λ j m other. u .below j (List·Memᴰ·tail m) other;
-    }
-
--- buckets of different rates are not the same
-falls-other : {k j : Bucket} → j .rate < k .rate → k ≡ j → ⊥
-falls-other falls e = omega (arith, ap (λ (b : Bucket). b .rate) e)
-
 -- Two neighbours with falling rates, the first useful at a time after x/y.
 module _ {k : Bucket} {x y : ℕ} {j : Bucket} {f : List Bucket} (falls : j .rate < k .rate)
     (w : UsefulAfter x y (k ∷ j ∷ f) k) where
   -- it is below the second there
   useful-below : bucketAt k (w .useful .p) (w .useful .q) < bucketAt j (w .useful .p) (w .useful .q)
-  useful-below = w .useful .below j (List·Memᴰ·tail (List·Memᴰ·head refl)) (λ e. falls-other falls (sym e))
+  useful-below = w .useful .below j (List·Memᴰ·tail (List·Memᴰ·head refl)) (λ e. other-rate falls (sym e))
 
   -- so they meet
   useful-meet : Meet k j (j .burst - k .burst) (k .rate - j .rate)
-  useful-meet = meet k j (le-of-lt falls) (le-of-lt (below-rises k j _ _ falls useful-below))
+  useful-meet = meet k j (le-of-lt falls) (le-of-lt (below-rises k j _ _ (le-of-lt falls) useful-below))
 
   -- their crossing is after x/y
   useful-later : 0 < y → x * (k .rate - j .rate) < (j .burst - k .burst) * y
@@ -261,10 +209,10 @@ module _ {k : Bucket} {x y : ℕ} {j : Bucket} {f : List Bucket} (falls : j .rat
 
   -- and the second, if useful, is so after their crossing
   useful-next : Useful (k ∷ j ∷ f) j → UsefulAfter (j .burst - k .burst) (k .rate - j .rate) (j ∷ f) j
-  unfolding fewer-useful
+  unfolding useful-fewer
   useful-next u =
-      let below = u .below k (List·Memᴰ·head refl) (falls-other falls) in
-      record { useful = fewer-useful u; after = after-if-below useful-meet (u .p) (u .q) below }
+      let below = u .below k (List·Memᴰ·head refl) (other-rate falls) in
+      record { useful = useful-fewer (λ i m. List·Memᴰ·tail m) u; after = after-if-below useful-meet (u .p) (u .q) below }
 
 -- useful buckets by falling rates cross one after the other
 useful-rising :
@@ -279,7 +227,7 @@ useful-rising (j ∷ f) k x y hy falling w others =
     (record {
       falls = falls;
       later = useful-later falls w hy;
-      rest = useful-rising f j _ _ (omega arith) (falling .1) next (λ i m. fewer-useful (others i (List·Memᴰ·tail m)));
+      rest = useful-rising f j _ _ (omega arith) (falling .1) next (λ i m. useful-fewer (λ l n. List·Memᴰ·tail n) (others i (List·Memᴰ·tail m)));
     })
 
 -- every list in normal form passes the test
@@ -293,7 +241,4 @@ neighbours-complete (k ∷ f) n =
 
 -- what fails the test is not in normal form
 pub neighbours-refute : (f : List Bucket) → isNormal f ≡ false → NormalForm f → ⊥
-neighbours-refute f h n =
-    let e = neighbours-complete f n in
-    let z : _≡_ {A = ℕ} 0 1 = cc in
-    omega arith
+neighbours-refute f h n = true≢false (sym (neighbours-complete f n) ∙ h)

@@ -2,17 +2,18 @@
 -- at each fraction, so nothing is lost with the others; and useful buckets of one rate are one bucket, so rates fall strictly.
 -- Assumes nothing.
 use mathlib.Core.Path.{_≡_, refl, sym, ap, subst}
-use mathlib.Core.Logic.{_⊎_, inl, inr}
-use mathlib.Core.List.{List, [], _∷_, List·Memᴰ·head, List·Memᴰ·tail, List·Memᴰ·cases-cons, List·Memᴰ·not-nil, Memᴰ·cast}
+use mathlib.Core.Logic.{_⊎_, inl, inr, ⊎-map}
+use mathlib.Core.List.{List, [], _∷_, List·Memᴰ·head, List·Memᴰ·tail, List·Memᴰ·cases-cons, List·Memᴰ·not-nil}
 use Prim.Native.Nat.{_*_, _≤_, _<_}
-use native.Mathlib.Nat.{le-antisymm, mul-le-mul-left}
+use native.Mathlib.Nat.{le-antisymm, lt-trans, mul-le-mul-left}
 use native.Mathlib.Omega.{arith}
 use lib.ListN.{length}
 use Rattle.meaning.specs.Curve.{Bucket, _∈_, bucketAt, Falling, Useful, NormalForm, SameCurve, NormalOf}
 use Rattle.meaning.specs.Computed.{isUseful, insert, chosen, normal}
-use Rattle.meaning.proofs.Order.{le-or-lt}
-use Rattle.meaning.proofs.Value.{some, value-least, value-unique}
-use Rattle.meaning.proofs.Lowest.{lowest, same-bucket}
+use Rattle.meaning.proofs.Order.{not-above}
+use Rattle.meaning.proofs.Lists.{cons-each}
+use Rattle.meaning.proofs.Value.{same-rate, some, value-least, value-unique}
+use Rattle.meaning.proofs.Lowest.{lowest, same-bucket, useful-fewer}
 use Rattle.meaning.proofs.Usefulness.{pick-holds, picked, useful-sound, useful-complete}
 
 -- f holds those buckets of `among` that are useful in raw, each once, by falling rates.
@@ -25,17 +26,6 @@ pub record ChosenAmong (raw among f : List Bucket) : Type 0 where
 -- f holds the useful buckets of raw.
 abbrev pub Chosen : List Bucket → List Bucket → Type 0
 Chosen raw f = ChosenAmong raw raw f
-
--- what is useful is useful among fewer
-pub useful-fewer : {f g : List Bucket} {k : Bucket} → ((j : Bucket) → j ∈ g → j ∈ f) → Useful f k → Useful g k
-useful-fewer fewer u =
-    record {
-      p = u .p;
-      q = u .q;
-      p-positive = u .p-positive;
-      q-positive = u .q-positive;
-      below = λ j m other. u .below j (fewer j m) other;
-    }
 
 module _ {raw f : List Bucket} (h : 1 ≤ length raw) (c : Chosen raw f) where
   -- the useful buckets alone have the values
@@ -62,13 +52,10 @@ module _ {raw : List Bucket} where
   -- no bucket of a useful one's rate has a lower burst
   useful-lowest : {k j : Bucket} → Useful raw k → j ∈ raw → k .rate ≡ j .rate → k .burst ≤ j .burst
   unfolding bucketAt
-  useful-lowest {k} {j} u m e = split (le-or-lt (k .burst) (j .burst))
-    where
-      split : (k .burst ≤ j .burst) ⊎ (j .burst < k .burst) → k .burst ≤ j .burst
-      split (inl l) = l
-      split (inr l) =
-          let under = u .below j m (λ s. omega (arith, ap (λ (x : Bucket). x .burst) s)) in
-          absurd (omega (arith, mul-le-mul-left (u .q) l, ap (λ x. x * u .p) e))
+  useful-lowest {k} {j} u m e =
+      not-above (λ l.
+      let under = u .below j m (λ s. omega (arith, ap (λ (x : Bucket). x .burst) s)) in
+      omega (arith, mul-le-mul-left (u .q) l, ap (λ x. x * u .p) e))
 
   -- so useful buckets of one rate are one bucket
   pub useful-one :
@@ -88,42 +75,22 @@ module _ {k j : Bucket} {f : List Bucket} (fall : Falling (j ∷ f)) where
   unfolding Falling
   inserted-first l =
       record {
-        falling = (λ i m. flatter i (List·Memᴰ·cases-cons m), fall);
+        falling = (cons-each l (λ i m. lt-trans (fall .0 i m) l), fall);
         has = List·Memᴰ·head refl;
         keeps = λ i m. List·Memᴰ·tail m;
         from = λ i m. List·Memᴰ·cases-cons m;
       }
-    where
-      flatter : (i : Bucket) → (i ≡ j) ⊎ (i ∈ f) → i .rate < k .rate
-      flatter i (inl e) = omega (arith, ap (λ (x : Bucket). x .rate) e)
-      flatter i (inr m) = omega (arith, fall .0 i m)
 
   -- somewhere behind a steeper first one
   inserted-later : {g : List Bucket} → k .rate < j .rate → Inserted k f g → Inserted k (j ∷ f) (j ∷ g)
   unfolding Falling
   inserted-later {g} l r =
       record {
-        falling = (λ i m. flatter i (r .from i m), r .falling);
+        falling = (λ i m. elim (r .from i m) [ inl e ↦ omega (arith, same-rate e) | inr n ↦ fall .0 i n ], r .falling);
         has = List·Memᴰ·tail (r .has);
-        keeps = λ i m. keep i (List·Memᴰ·cases-cons m);
-        from = λ i m. back i (List·Memᴰ·cases-cons m);
+        keeps = cons-each (List·Memᴰ·head refl) (λ i m. List·Memᴰ·tail (r .keeps i m));
+        from = cons-each (inr (List·Memᴰ·head refl)) (λ i m. ⊎-map (λ e. e) (λ n. List·Memᴰ·tail n) (r .from i m));
       }
-    where
-      flatter : (i : Bucket) → (i ≡ k) ⊎ (i ∈ f) → i .rate < j .rate
-      flatter i (inl e) = omega (arith, ap (λ (x : Bucket). x .rate) e)
-      flatter i (inr m) = fall .0 i m
-
-      keep : (i : Bucket) → (i ≡ j) ⊎ (i ∈ f) → i ∈ (j ∷ g)
-      keep i (inl e) = List·Memᴰ·head e
-      keep i (inr m) = List·Memᴰ·tail (r .keeps i m)
-
-      behind : (i : Bucket) → (i ≡ k) ⊎ (i ∈ f) → (i ≡ k) ⊎ (i ∈ (j ∷ f))
-      behind i (inl e) = inl e
-      behind i (inr m) = inr (List·Memᴰ·tail m)
-
-      back : (i : Bucket) → (i ≡ j) ⊎ (i ∈ g) → (i ≡ k) ⊎ (i ∈ (j ∷ f))
-      back i (inl e) = inr (List·Memᴰ·head e)
-      back i (inr m) = behind i (r .from i m)
 
   -- not at all where it is the first one
   inserted-same : k ≡ j → Inserted k (j ∷ f) (j ∷ f)
@@ -151,32 +118,20 @@ module _ {raw among f : List Bucket} (k : Bucket) (c : ChosenAmong raw among f) 
   -- one bucket more to choose among: a useful one is put in its place
   pub chosen-more :
       ((j : Bucket) → j ∈ (k ∷ among) → j ∈ raw) → Useful raw k → ChosenAmong raw (k ∷ among) (insert k f)
-  chosen-more within u = more (inserted k f (c .falling) one)
+  chosen-more within u =
+      record {
+        falling = r .falling;
+        from = λ i m. elim (r .from i m) [ inl e ↦ List·Memᴰ·head e | inr n ↦ List·Memᴰ·tail (c .from i n) ];
+        useful = λ i m. elim (r .from i m) [ inl e ↦ subst (Useful raw) (sym e) u | inr n ↦ c .useful i n ];
+        all = cons-each (λ v. r .has) (λ i m v. r .keeps i (c .all i m v));
+      }
     where
       one : (j : Bucket) → j ∈ f → k .rate ≡ j .rate → k ≡ j
       one j m e =
           useful-one (within k (List·Memᴰ·head refl)) (within j (List·Memᴰ·tail (c .from j m))) u (c .useful j m) e
 
-      more : Inserted k f (insert k f) → ChosenAmong raw (k ∷ among) (insert k f)
-      more r =
-          record {
-            falling = r .falling;
-            from = λ i m. from i (r .from i m);
-            useful = λ i m. useful i (r .from i m);
-            all = λ i m v. all i v (List·Memᴰ·cases-cons m);
-          }
-        where
-          from : (i : Bucket) → (i ≡ k) ⊎ (i ∈ f) → i ∈ (k ∷ among)
-          from i (inl e) = List·Memᴰ·head e
-          from i (inr m) = List·Memᴰ·tail (c .from i m)
-
-          useful : (i : Bucket) → (i ≡ k) ⊎ (i ∈ f) → Useful raw i
-          useful i (inl e) = subst (Useful raw) (sym e) u
-          useful i (inr m) = c .useful i m
-
-          all : (i : Bucket) → Useful raw i → (i ≡ k) ⊎ (i ∈ among) → i ∈ insert k f
-          all i v (inl e) = Memᴰ·cast e (r .has)
-          all i v (inr m) = r .keeps i (c .all i m v)
+      r : Inserted k f (insert k f)
+      r = inserted k f (c .falling) one
 
   -- and a useless one changes nothing
   pub chosen-still : (Useful raw k → ⊥) → ChosenAmong raw (k ∷ among) f
@@ -185,12 +140,8 @@ module _ {raw among f : List Bucket} (k : Bucket) (c : ChosenAmong raw among f) 
         falling = c .falling;
         from = λ i m. List·Memᴰ·tail (c .from i m);
         useful = c .useful;
-        all = λ i m v. all i v (List·Memᴰ·cases-cons m);
+        all = cons-each (λ v. absurd (useless v)) (c .all);
       }
-    where
-      all : (i : Bucket) → Useful raw i → (i ≡ k) ⊎ (i ∈ among) → i ∈ f
-      all i v (inl e) = absurd (useless (subst (Useful raw) e v))
-      all i v (inr m) = c .all i m v
 
 -- the buckets that are worked out are the useful ones
 pub chosen-among :

@@ -3,10 +3,10 @@
 -- winning over all operands, then LARGE, then ROOM, then the answer.
 -- Assumes nothing.
 use mathlib.Core.Path.{_≡_, refl, sym, _∙_, ap, subst, subst₂}
-use mathlib.Core.Logic.{_⊎_, inl, inr}
+use mathlib.Core.Logic.{inl, inr, ⊎-elim, ⊎-swap}
 use mathlib.Core.Bool.{Bool, true, false}
 use mathlib.Core.List.{List, _++_, append-assoc, append-nil}
-use Prim.Native.Nat.{ℕ, suc, _≤_, _<_, min}
+use Prim.Native.Nat.{ℕ, _≤_, _<_, min}
 use native.Mathlib.Nat.{le-trans, le-of-eq, le-antisymm, le-refl, min-eq-left, min-eq-right, le-of-lt}
 use native.Mathlib.Omega.{arith}
 use lib.ListN.{length, take, drop, take-append-drop}
@@ -123,20 +123,22 @@ abbrev pub UpTo : ℕ → Lines → Type 0
 UpTo n lines = (r : Refusal) → lines r → number r ≤ n
 
 module _ {n : ℕ} where
+  -- one line is from its number on,
   pub from-when : (r : Refusal) {P : Type 0} → n ≤ number r → From n (r when P)
   from-when r h line holds = le-trans h (le-of-eq (ap number (sym (holds .0))))
 
+  -- and up to its number
   pub up-to-when : (r : Refusal) {P : Type 0} → number r ≤ n → UpTo n (r when P)
   up-to-when r h line holds = le-trans (le-of-eq (ap number (holds .0))) h
 
 module _ {a b : Lines} {n : ℕ} where
+  -- so are several, if each is from a number on,
   pub from-or : From n a → From n b → From n (a or b)
-  from-or ha hb line (inl h) = ha line h
-  from-or ha hb line (inr h) = hb line h
+  from-or ha hb line = ⊎-elim (ha line) (hb line)
 
+  -- or up to a number
   pub up-to-or : UpTo n a → UpTo n b → UpTo n (a or b)
-  up-to-or ha hb line (inl h) = ha line h
-  up-to-or ha hb line (inr h) = hb line h
+  up-to-or ha hb line = ⊎-elim (ha line) (hb line)
 
 -- A line that holds.
 pub line-hit : (r : Refusal) {P : Type 0} → P → Verdict (r when P) (number r)
@@ -147,9 +149,9 @@ pub line-miss : {r : Refusal} {P : Type 0} → (P → ⊥) → Verdict (r when P
 line-miss none = accepted (λ line holds. none (holds .1)) refl
 
 module _ {a b : Lines} where
+  -- No line of either holds.
   pub clear-or : Clear a → Clear b → Clear (a or b)
-  clear-or va vb line (inl h) = va line h
-  clear-or va vb line (inr h) = vb line h
+  clear-or va vb line = ⊎-elim (va line) (vb line)
 
   -- What the first lines refuse, all of numbers up to the others', is refused.
   pub refused-first : {n code : ℕ} → UpTo n a → From n b → 1 ≤ code → Verdict a code → Verdict (a or b) code
@@ -182,28 +184,25 @@ smaller some h (rejected r v e) (rejected s w e′) =
 
 module _ {a b : Lines} where
   swapped : {code : ℕ} → Verdict (b or a) code → Verdict (a or b) code
-  swapped (accepted v e) = accepted (clear-or (λ line h. v line (inr h)) (λ line h. v line (inl h))) e
-  swapped (rejected r w e) = rejected r (record { holds = turned r (w .holds); smallest = λ line h. w .smallest line (back line h) }) e
-    where
-      turned : (line : Refusal) → (b or a) line → (a or b) line
-      turned line (inl h) = inr h
-      turned line (inr h) = inl h
+  swapped (accepted v e) = accepted (λ line h. v line (⊎-swap h)) e
+  swapped (rejected r w e) =
+      rejected r (record { holds = ⊎-swap (w .holds); smallest = λ line h. w .smallest line (⊎-swap h) }) e
 
-      back : (line : Refusal) → (a or b) line → (b or a) line
-      back line (inl h) = inr h
-      back line (inr h) = inl h
-
+  -- The code of both together is the smaller one, where 0 is none.
   pub verdict-or : {x y : ℕ} → Verdict a x → Verdict b y → Verdict (a or b) (earlier x y)
   unfolding earlier pick
   verdict-or {x} {y} v w = by-first (eqb x 0) refl
     where
-      by-size : (x ≤ y) ⊎ (y < x) → 1 ≤ x → 1 ≤ y → Verdict (a or b) (min x y)
-      by-size (inl h) sx sy = subst (Verdict (a or b)) (sym (min-eq-left h)) (smaller sx h v w)
-      by-size (inr h) sx sy = subst (Verdict (a or b)) (sym (min-eq-right (le-of-lt h))) (swapped (smaller sy (le-of-lt h) w v))
+      by-size : 1 ≤ x → 1 ≤ y → Verdict (a or b) (min x y)
+      by-size sx sy =
+          elim (le-or-lt x y) [
+            | inl h ↦ rw (min-eq-left h) (smaller sx h v w)
+            | inr h ↦ rw (min-eq-right (le-of-lt h)) (swapped (smaller sy (le-of-lt h) w v))
+          ]
 
       by-second : (t : Bool) → eqb y 0 ≡ t → 1 ≤ x → Verdict (a or b) (pick t x (min x y))
       by-second true e sx = swapped (refused-then (subst (Verdict b) (eqb-true y 0 e) w) v)
-      by-second false e sx = by-size (le-or-lt x y) sx (omega (arith, eqb-false y 0 e))
+      by-second false e sx = by-size sx (omega (arith, eqb-false y 0 e))
 
       by-first : (t : Bool) → eqb x 0 ≡ t → Verdict (a or b) (pick t y (pick (eqb y 0) x (min x y)))
       by-first true e = refused-then (subst (Verdict a) (eqb-true x 0 e) v) w
@@ -288,6 +287,7 @@ module _
     lines-back r (inl h) = absurd (clear′ r h)
     lines-back r (inr h) = inr (same-answers back r h)
 
+    -- what comes of the one comes of the other,
     pub asked-so : {before after : List ℕ} {code count : ℕ} → Outcome ask before after code count → Outcome other before after code count
     asked-so (Outcome.refused v) =
         Outcome.refused
@@ -313,6 +313,7 @@ module _
           written = v .written;
         })
 
+    -- over a part of a table too
     pub asked-so-in-part :
         {at room : ℕ} {before after : List ℕ} {code count : ℕ}
         → PartOutcome ask at room before after code count → PartOutcome other at room before after code count

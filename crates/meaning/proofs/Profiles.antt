@@ -5,7 +5,7 @@ use mathlib.Core.Path.{_≡_, refl, sym, _∙_, ap, ap₂}
 use mathlib.Core.Logic.{_⊎_, inl, inr, _≢_}
 use mathlib.Core.List.{List, [], _∷_, _++_, map, append-assoc, List·Memᴰ, List·Memᴰ·head, List·Memᴰ·tail, List·Memᴰ·cases-cons}
 use Prim.Native.Nat.{ℕ, zero, suc, _+_, _-_, _*_, _/_, _%_, _^_, _≤_, _<_}
-use native.Mathlib.Nat.{lt-of-lt-of-le, le-antisymm, zero-add, add-zero, le-refl, mul-le-mul, mul-add-mod-self-left, mod-lt, mod-eq-of-lt, mod-one, mul-add-div-right, two-pow-succ}
+use native.Mathlib.Nat.{lt-of-lt-of-le, zero-add, add-zero, le-refl, mul-le-mul, mul-add-mod-self-left, mod-lt, mod-eq-of-lt, mod-one, mul-add-div-right, two-pow-succ}
 use native.Mathlib.Decide.{ℕ-discrete}
 use native.Mathlib.Numerals.{add-one}
 use native.Mathlib.Omega.{arith}
@@ -14,14 +14,17 @@ use lib.Seq.{take-all, take-suc, getD-drop, getD-append-add, take-at, drop-at, d
 use lib.Pow.{pow-pos, pow-mono, high, mod-pow-add}
 use borrow.Author.Tests.{eq-eqb, ne-eqb}
 use Rattle.meaning.proofs.Outcomes.{Same, refused-once, refused-or-clear}
-use Rattle.meaning.specs.Curve.{Bucket, _∈_, NormalForm}
+use Rattle.meaning.specs.Curve.{Bucket, NormalForm}
 use Rattle.meaning.specs.Server.{Server}
-use Rattle.meaning.specs.Refusal.{HEADER, LENGTH, PAD, Lines, Clear, InRange, AllInRange, Refused}
+use Rattle.meaning.specs.Refusal.{HEADER, LENGTH, PAD, Lines, Clear, AllInRange}
 use Rattle.meaning.specs.ServerQuestions.{ServerInRange}
 use Rattle.meaning.specs.Profile.{bitsOf, spelt, Field, _bits_, packed, fileBits, bytesOf, edition, Profile, curve, server, kindOf, bucketFields, fields, profileBits, byteCount, written, field, bucketsIn, profileOf, padding, profileLines, fileLines, ReadOutcome, WriteOutcome}
-use Rattle.meaning.proofs.Order.{le-or-lt}
+use Rattle.meaning.proofs.Order.{le-or-lt, not-apart}
+use Rattle.meaning.proofs.Lists.{cons-each}
+use Rattle.meaning.proofs.Lowest.{same-bucket}
+use Rattle.meaning.proofs.Joining.{same-server}
 
--- every number of the list is 0 or 1
+-- Every number of the list is 0 or 1.
 abbrev pub Binary : List ℕ → Type 0
 Binary [] = Unit {0}
 Binary (b ∷ l) = (b < 2) × Binary l
@@ -118,8 +121,12 @@ bits-taken w x rest = take-at (bitsOf w x) rest w (length-bits w x)
 bits-dropped : (w x : ℕ) (rest : List ℕ) → drop w (bitsOf w x ++ rest) ≡ rest
 bits-dropped w x rest = drop-at (bitsOf w x) rest w (length-bits w x)
 
+-- Every number of the file is a byte.
+abbrev pub Bytes : List ℕ → Type 0
+Bytes file = (x : ℕ) → List·Memᴰ x file → x < 256
+
 -- bytes of a file's bits
-bytes-of-file : (file : List ℕ) → ((x : ℕ) → List·Memᴰ x file → x < 256) → bytesOf (length file) (fileBits file) ≡ file
+bytes-of-file : (file : List ℕ) → Bytes file → bytesOf (length file) (fileBits file) ≡ file
 unfolding fileBits packed bytesOf
 bytes-of-file [] h = refl
 bytes-of-file (x ∷ file) h =
@@ -142,12 +149,12 @@ bits-of-bytes (suc n) l h e =
       take-append-drop 8 l,
     )
 
--- the fields stand in a file one after the other, the first beginning at a bit
+-- The fields stand in a file one after the other, the first beginning at a bit.
 abbrev pub Stands : List ℕ → ℕ → List Field → Type 0
 Stands file at [] = Unit {0}
 Stands file at (w bits x ∷ fs) = (field file at w ≡ x) × Stands file (at + w) fs
 
--- each number fits its field
+-- Each number fits its field.
 abbrev pub Fits : List Field → Type 0
 Fits [] = Unit {0}
 Fits (w bits x ∷ fs) = (x < 2 ^ w) × Fits fs
@@ -179,7 +186,7 @@ stands-packed file at (w bits x ∷ fs) fits h =
     let next = stands-packed file (at + w) fs (omega arith) (h .1) in
     rw (append-assoc, further) (cc (take-append-drop w (drop at all), h .0, here, drop-drop w at all, next))
 
--- so many zero bits: bits with no 1 among them, as no others are
+-- So many zero bits: bits with no 1 among them, as no others are.
 abbrev pub zeroBits : ℕ → List ℕ
 zeroBits n = replicate n 0
 
@@ -189,11 +196,7 @@ binary-zeros (suc n) = (omega arith, binary-zeros n)
 
 zeros-no-one : (n : ℕ) → List·Memᴰ 1 (zeroBits n) → ⊥
 zeros-no-one zero m = elim m [ ]
-zeros-no-one (suc n) m = split (zeros-no-one n) (List·Memᴰ·cases-cons m)
-  where
-    split : (List·Memᴰ 1 (zeroBits n) → ⊥) → (_≡_ {A = ℕ} 1 0) ⊎ List·Memᴰ 1 (zeroBits n) → ⊥
-    split rest (inl e) = omega arith
-    split rest (inr k) = rest k
+zeros-no-one (suc n) m = elim (List·Memᴰ·cases-cons m) [ inl e ↦ omega arith | inr k ↦ zeros-no-one n k ]
 
 no-one-zeros : (l : List ℕ) → Binary l → (List·Memᴰ 1 l → ⊥) → l ≡ zeroBits (length l)
 no-one-zeros [] h none = refl
@@ -212,14 +215,16 @@ unfolding bytesOf
 length-bytes zero l = refl
 length-bytes (suc n) l = ap suc (length-bytes n (drop 8 l))
 
+-- so has a profile's file
 pub written-length : (p : Profile) → length (written p) ≡ byteCount p
 unfolding written
 written-length p = length-bytes _ _
 
--- how many bits there are up to the byte's end, and the bits with them
+-- How many bits there are up to the byte's end.
 abbrev pub padWidth : Profile → ℕ
 padWidth p = 8 * byteCount p - length (profileBits p)
 
+-- The profile's bits, and zero bits up to the byte's end.
 abbrev pub padded : Profile → List ℕ
 padded p = profileBits p ++ zeroBits (padWidth p)
 
@@ -233,6 +238,7 @@ unfolding byteCount
 length-padded p =
     omega (arith, length-append (profileBits p) (zeroBits (padWidth p)), length-replicate {A = ℕ} (padWidth p) 0)
 
+-- they are the file's bits
 pub written-bits : (p : Profile) → fileBits (written p) ≡ padded p
 unfolding written
 written-bits p = bits-of-bytes (byteCount p) (padded p) (binary-padded p) (length-padded p)
@@ -247,57 +253,61 @@ unfolding bucketFields
 bucket-bits [] = no-bits
 bucket-bits (k ∷ f) = simp length-packed (omega (arith, bucket-bits f))
 
+-- a curve has 14 + 60·n bits,
 pub curve-bits : (f : List Bucket) → length (profileBits (curve f)) ≡ 14 + 60 * length f
 unfolding profileBits fields
 curve-bits f = simp length-packed (omega (arith, bucket-bits f))
 
+-- and a server 48
 pub server-bits : (s : Server) → length (profileBits (server s)) ≡ 48
 unfolding profileBits fields
 server-bits s = simp length-packed (omega (arith, no-bits))
 
--- written (curve f) has (60·n + 21)/8 bytes, the server's 6
+-- a curve's file has (60·n + 21)/8 bytes,
 pub curve-bytes : (f : List Bucket) → length (written (curve f)) ≡ (60 * length f + 21) / 8
 unfolding byteCount
 curve-bytes f = omega (arith, written-length (curve f), curve-bits f)
 
+-- and a server's 6
 pub server-bytes : (s : Server) → length (written (server s)) ≡ 6
 unfolding byteCount
 server-bytes s = omega (arith, written-length (server s), server-bits s)
 
--- the buckets of a file are so many, and stand in it; those that stand in it are its buckets
+-- the buckets of a file are so many
 pub length-buckets-in : (file : List ℕ) (at n : ℕ) → length (bucketsIn file at n) ≡ n
 unfolding bucketsIn
 length-buckets-in file at zero = refl
 length-buckets-in file at (suc n) = ap suc (length-buckets-in file (at + 60) n)
 
+-- The bucket of a file that begins at a bit.
+abbrev pub bucketFrom : List ℕ → ℕ → Bucket
+bucketFrom file at = record { rate = field file at 20; burst = field file (at + 20) 40 }
+
 -- past the rate and the burst of a bucket
 past-bucket : (at : ℕ) → at + 20 + 40 ≡ at + 60
 past-bucket at = omega arith
 
+-- they stand in it
 buckets-stand : (file : List ℕ) (at n : ℕ) → Stands file at (bucketFields (bucketsIn file at n))
 unfolding bucketsIn bucketFields
 buckets-stand file at zero = tt
 buckets-stand file at (suc n) = (refl, (refl, rw past-bucket (buckets-stand file (at + 60) n)))
 
--- a bucket, a server is its two numbers
-same-bucket : {r b : ℕ} (k : Bucket) → r ≡ k .rate → b ≡ k .burst → _≡_ {A = Bucket} (record { rate = r; burst = b }) k
-same-bucket k e d = λ i. record { rate = e i; burst = d i }
-
-same-server : {r t : ℕ} (s : Server) → r ≡ s .rate → t ≡ s .latency → _≡_ {A = Server} (record { rate = r; latency = t }) s
-same-server s e d = λ i. record { rate = e i; latency = d i }
-
+-- and those that stand in it are its buckets
 standing-buckets : (file : List ℕ) (at : ℕ) (f : List Bucket) → Stands file at (bucketFields f) → bucketsIn file at (length f) ≡ f
 unfolding bucketsIn bucketFields
 standing-buckets file at [] h = refl
 standing-buckets file at (k ∷ f) h =
+    let first : bucketFrom file at ≡ k = same-bucket (h .0) (h .1 .0) in
     let rest : Stands file (at + 60) (bucketFields f) = rw past-bucket at (h .1 .1) in
-    cc (same-bucket k (h .0) (h .1 .0), standing-buckets file (at + 60) f rest)
+    cc (first, standing-buckets file (at + 60) f rest)
 
--- the profile that a file holds, by its kind
+-- a file of kind 1 holds a curve,
 pub held-curve : (file : List ℕ) → field file 4 4 ≡ 1 → profileOf file ≡ curve (bucketsIn file 14 (field file 8 6 + 1))
 unfolding profileOf
 held-curve file e = rw (eq-eqb (field file 4 4) 1 e)
 
+-- and one of another kind a server
 pub held-server :
     (file : List ℕ) → field file 4 4 ≢ 1
     → profileOf file ≡ server (record { rate = field file 8 20; latency = field file 28 20 })
@@ -314,7 +324,7 @@ standing-curve file f some h =
 standing-server : (file : List ℕ) (s : Server) → Stands file 0 (fields (server s)) → profileOf file ≡ server s
 unfolding fields
 standing-server file s h =
-    held-server file (omega (arith, h .1 .0)) ∙ ap server (same-server s (h .1 .1 .0) (h .1 .1 .1 .0))
+    held-server file (omega (arith, h .1 .0)) ∙ ap server (same-server (h .1 .1 .0) (h .1 .1 .1 .0))
 
 -- a profile whose numbers fit their fields stands in its file
 written-stands : (p : Profile) → Fits (fields p) → Stands (written p) 0 (fields p)
@@ -347,7 +357,7 @@ unfolding padding
 written-padding p same =
     rw (same, written-bits) (drop-append-seam (profileBits p) (zeroBits (padWidth p)))
 
--- what is written reads back: no line holds of the file, and it holds the profile
+-- What is written reads back: no line holds of the file, and it holds the profile.
 pub record ReadsBack (p : Profile) : Type 0 where
   pub clear : Clear (fileLines (written p))
   pub same : profileOf (written p) ≡ p
@@ -377,7 +387,7 @@ module _ (p : Profile) (stands : Stands (written p) 0 (fields p)) (same : profil
       clear r (inl (inr h)) = no-padding (h .1)
       clear r (inr h) = sound r (rw same at h)
 
--- a curve in normal form, within range and of at most 64 buckets, reads back
+-- buckets in range fit their fields
 bucket-fields-fit : (f : List Bucket) → AllInRange f → Fits (bucketFields f)
 unfolding bucketFields
 bucket-fields-fit [] h = tt
@@ -385,6 +395,7 @@ bucket-fields-fit (k ∷ f) h =
     let first = h k (List·Memᴰ·head refl) in
     (first .rate-fits, (first .burst-fits, bucket-fields-fit f (λ j m. h j (List·Memᴰ·tail m))))
 
+-- a curve in normal form, within range and of at most 64 buckets, reads back
 pub read-back-curve : (f : List Bucket) → NormalForm f → AllInRange f → length f ≤ 64 → ReadsBack (curve f)
 unfolding fields
 read-back-curve f form ranged few = reads-back (curve f) stands same sound
@@ -412,10 +423,6 @@ read-back-server s ranged = reads-back (server s) stands same sound
 
     sound : Clear (profileLines (server s))
     sound r h = h .1 ranged
-
--- every number of the file is a byte
-abbrev pub Bytes : List ℕ → Type 0
-Bytes file = (x : ℕ) → List·Memᴰ x file → x < 256
 
 -- the padding is bits, as many as there are up to the byte's end
 pub binary-padding : (file : List ℕ) → Binary (padding file)
@@ -445,14 +452,6 @@ module _ (file : List ℕ) (whole : length file ≡ byteCount (profileOf file)) 
       all : fileBits file ≡ padded p
       all = stands-packed file 0 (fields p) (omega arith) stands ∙ rw (zero-add, padding-zeros)
 
--- two numbers that are not apart are equal
-not-apart : (a b : ℕ) → (a ≢ b → ⊥) → a ≡ b
-not-apart a b h = split (ℕ-discrete a b)
-  where
-    split : Dec (a ≡ b) → a ≡ b
-    split (yes e) = e
-    split (no n) = absurd (h n)
-
 -- the fields of the profile that a file holds stand in it, where its header is right
 module _ (file : List ℕ) (first : field file 0 4 ≡ edition) where
   curve-stands : field file 4 4 ≡ 1 → Stands file 0 (fields (profileOf file))
@@ -468,23 +467,25 @@ module _ (file : List ℕ) (first : field file 0 4 ≡ edition) where
 
 -- a file of bytes of which no line holds is written again as the same bytes
 pub write-back : (file : List ℕ) → Bytes file → Clear (fileLines file) → written (profileOf file) ≡ file
-write-back file bytes clear = standing-written file whole no-one (split (ℕ-discrete (field file 4 4) 1)) bytes
+write-back file bytes clear =
+    standing-written file whole no-one
+    (elim (ℕ-discrete (field file 4 4) 1) [
+      | yes kind ↦ curve-stands file first kind
+      | no other ↦
+          server-stands file first (not-apart (λ h. clear HEADER (inl (inl (inl (refl, inr (inr (other, h))))))))
+    ])
+    bytes
   where
     whole : length file ≡ byteCount (profileOf file)
-    whole = not-apart _ _ (λ h. clear LENGTH (inl (inl (inr (refl, inl h)))))
+    whole = not-apart (λ h. clear LENGTH (inl (inl (inr (refl, inl h)))))
 
     no-one : List·Memᴰ 1 (padding file) → ⊥
     no-one m = clear PAD (inl (inr (refl, m)))
 
     first : field file 0 4 ≡ edition
-    first = not-apart _ _ (λ h. clear HEADER (inl (inl (inl (refl, inr (inl h))))))
+    first = not-apart (λ h. clear HEADER (inl (inl (inl (refl, inr (inl h))))))
 
-    split : Dec (field file 4 4 ≡ 1) → Stands file 0 (fields (profileOf file))
-    split (yes kind) = curve-stands file first kind
-    split (no other) =
-        server-stands file first (not-apart _ _ (λ h. clear HEADER (inl (inl (inl (refl, inr (inr (other, h))))))))
-
--- no other outcome of reading is right: the list, the code and each figure are the same
+-- What the caller gets to see of a reading is the same: the list, the code and each figure.
 pub record SameRead (after after′ : List ℕ) (code kind count rate latency code′ kind′ count′ rate′ latency′ : ℕ) : Type 0 where
   pub after-same : after ≡ after′
   pub code-same : code ≡ code′
@@ -493,6 +494,7 @@ pub record SameRead (after after′ : List ℕ) (code kind count rate latency co
   pub rate-same : rate ≡ rate′
   pub latency-same : latency ≡ latency′
 
+-- no other outcome of reading is right
 pub one-read :
     {file before after after′ : List ℕ} {code kind count rate latency code′ kind′ count′ rate′ latency′ : ℕ}
     → ReadOutcome file before after code kind count rate latency
@@ -534,18 +536,6 @@ one-write (WriteOutcome.answered v) (WriteOutcome.answered w) =
       figure-same = v .count-is ∙ sym (w .count-is);
     }
 
--- P11: server (6,1) as a file is 12 00 00 60 00 01; curve {(10,2)} is 11 00 00 02 80 00 00 00 00 80
-pub p11-server :
-    written (server (record { rate = 6; latency = 1 })) ≡ 0x12 ∷ 0x00 ∷ 0x00 ∷ 0x60 ∷ 0x00 ∷ 0x01 ∷ []
-unfolding written byteCount profileBits fields packed bitsOf spelt bytesOf
-p11-server = refl
-
-pub p11-curve :
-    written (curve (record { rate = 10; burst = 2 } ∷ []))
-    ≡ 0x11 ∷ 0x00 ∷ 0x00 ∷ 0x02 ∷ 0x80 ∷ 0x00 ∷ 0x00 ∷ 0x00 ∷ 0x00 ∷ 0x80 ∷ []
-unfolding written byteCount profileBits fields bucketFields packed bitsOf spelt bytesOf
-p11-curve = refl
-
 -- ---- The bits of a file by their positions, for a reader that takes one after the other.
 
 -- a field's number fits it
@@ -556,19 +546,13 @@ field-fits file at w =
     lt-of-lt-of-le (spelt-fits l (binary-take w (drop at (fileBits file)) (binary-drop at (fileBits file) (binary-file file))))
     (pow-mono (omega (arith, length-take w (drop at (fileBits file)))))
 
--- the bucket of a file that begins at a bit
-abbrev pub bucketFrom : List ℕ → ℕ → Bucket
-bucketFrom file at = record { rate = field file at 20; burst = field file (at + 20) 40 }
-
 -- the buckets of a file are in range
 pub buckets-in-range : (file : List ℕ) (at n : ℕ) → AllInRange (bucketsIn file at n)
 unfolding bucketsIn
 buckets-in-range file at zero k m = elim m [ ]
-buckets-in-range file at (suc n) k m = split (λ t. buckets-in-range file (at + 60) n k t) (List·Memᴰ·cases-cons m)
-  where
-    split : (k ∈ bucketsIn file (at + 60) n → InRange k) → (k ≡ bucketFrom file at) ⊎ (k ∈ bucketsIn file (at + 60) n) → InRange k
-    split rest (inl e) = rw e (record { rate-fits = field-fits file at 20; burst-fits = field-fits file (at + 20) 40 })
-    split rest (inr t) = rest t
+buckets-in-range file at (suc n) k m =
+    cons-each (record { rate-fits = field-fits file at 20; burst-fits = field-fits file (at + 20) 40 })
+    (buckets-in-range file (at + 60) n) k m
 
 -- one bucket more
 pub buckets-in-next :
@@ -591,6 +575,7 @@ spelt-next (x ∷ l) b =
       ap (λ (y : ℕ). x * y) (two-pow-succ (length l)),
     )
 
+-- so a field of one bit more
 pub field-next :
     (file : List ℕ) (at w : ℕ) → at + w < 8 * length file
     → field file at (w + 1) ≡ field file at w * 2 + getD (fileBits file) (at + w) 0
@@ -599,54 +584,52 @@ field-next file at w h =
     let inside : w < length (drop at (fileBits file)) = omega (arith, length-drop at (fileBits file), length-file-bits file) in
     rw (add-one, take-suc (drop at (fileBits file)) w 0, spelt-next, getD-drop)
 
--- the bit at a position is one of its byte's
+-- the bit of a number at a position
 bit-of-number : (w x i : ℕ) → i < w → getD (bitsOf w x) i 0 ≡ x / 2 ^ (w - 1 - i) % 2
 unfolding bitsOf
 bit-of-number zero x i h = absurd (omega arith)
 bit-of-number (suc w) x zero h = ap (λ (n : ℕ). x / 2 ^ n % 2) (omega arith)
 bit-of-number (suc w) x (suc i) h = bit-of-number w x i (omega arith) ∙ ap (λ (n : ℕ). x / 2 ^ n % 2) (omega arith)
 
+-- the bit of a file at a position is one of its byte's
 pub bit-at : (file : List ℕ) (at : ℕ) → at < 8 * length file → getD (fileBits file) at 0 ≡ getD file (at / 8) 0 / 2 ^ (7 - at % 8) % 2
 unfolding fileBits packed
 bit-at [] at h = absurd (omega arith)
-bit-at (x ∷ file) at h = split (λ l. bit-at file (at - 8) l) (le-or-lt 8 at)
-  where
-    split :
-        (at - 8 < 8 * length file → getD (fileBits file) (at - 8) 0 ≡ getD file ((at - 8) / 8) 0 / 2 ^ (7 - (at - 8) % 8) % 2)
-        → (8 ≤ at) ⊎ (at < 8)
-        → getD (bitsOf 8 x ++ fileBits file) at 0 ≡ getD (x ∷ file) (at / 8) 0 / 2 ^ (7 - at % 8) % 2
-    split rest (inl past) =
-        let from : at ≡ length (bitsOf 8 x) + (at - 8) = omega (arith, length-bits 8 x) in
-        let byte : at / 8 ≡ suc ((at - 8) / 8) = omega arith in
-        let bit : at % 8 ≡ (at - 8) % 8 = omega arith in
-        ap (λ (n : ℕ). getD (bitsOf 8 x ++ fileBits file) n 0) from
-        ∙ getD-append-add (bitsOf 8 x) (fileBits file) (at - 8) 0
-        ∙ rest (omega arith)
-        ∙ rw (byte, bit)
-    split rest (inr here) =
-        let byte : at / 8 ≡ 0 = omega arith in
-        let bit : at % 8 ≡ at = omega arith in
-        List·getD-append (bitsOf 8 x) (fileBits file) 0 at (omega (arith, length-bits 8 x))
-        ∙ bit-of-number 8 x at here
-        ∙ rw (byte, bit)
+bit-at (x ∷ file) at h =
+    elim (le-or-lt 8 at) [
+      | inl past ↦
+          let from : at ≡ length (bitsOf 8 x) + (at - 8) = omega (arith, length-bits 8 x) in
+          let byte : at / 8 ≡ suc ((at - 8) / 8) = omega arith in
+          let bit : at % 8 ≡ (at - 8) % 8 = omega arith in
+          ap (λ (n : ℕ). getD (bitsOf 8 x ++ fileBits file) n 0) from
+          ∙ getD-append-add (bitsOf 8 x) (fileBits file) (at - 8) 0
+          ∙ bit-at file (at - 8) (omega arith)
+          ∙ rw (byte, bit)
+      | inr here ↦
+          let byte : at / 8 ≡ 0 = omega arith in
+          let bit : at % 8 ≡ at = omega arith in
+          List·getD-append (bitsOf 8 x) (fileBits file) 0 at (omega (arith, length-bits 8 x))
+          ∙ bit-of-number 8 x at here
+          ∙ rw (byte, bit)
+    ]
 
--- bits spell 0 exactly where no 1 is among them
+-- bits among which is a 1 do not spell 0,
 pub one-spelt : {l : List ℕ} → List·Memᴰ 1 l → 1 ≤ spelt l
 unfolding spelt
 one-spelt (List·Memᴰ·head {x = x} {xs = l} e) = rw (← e) (omega (arith, pow-pos (length l)))
 one-spelt (List·Memᴰ·tail m) = omega (arith, one-spelt m)
 
+-- and among those that do not there is a 1
 pub spelt-one : (l : List ℕ) → Binary l → 1 ≤ spelt l → List·Memᴰ 1 l
 unfolding spelt
 spelt-one [] h some = absurd (omega arith)
-spelt-one (b ∷ l) h some = split (λ p. spelt-one l (h .1) p) (ℕ-discrete b 1)
-  where
-    split : (1 ≤ spelt l → List·Memᴰ 1 l) → Dec (b ≡ 1) → List·Memᴰ 1 (b ∷ l)
-    split rest (yes e) = List·Memᴰ·head (sym e)
-    split rest (no n) = List·Memᴰ·tail (rest (omega (arith, ap (λ (c : ℕ). c * 2 ^ length l) zero-bit)))
-      where
-        zero-bit : b ≡ 0
-        zero-bit = omega (arith, n)
+spelt-one (b ∷ l) h some =
+    elim (ℕ-discrete b 1) [
+      | yes e ↦ List·Memᴰ·head (sym e)
+      | no n ↦
+          let zero-bit : b ≡ 0 = omega arith in
+          List·Memᴰ·tail (spelt-one l (h .1) (omega (arith, ap (λ (c : ℕ). c * 2 ^ length l) zero-bit)))
+    ]
 
 -- the padding of a file of the byte count required, as one more field
 pub padding-field :
@@ -655,20 +638,18 @@ pub padding-field :
 unfolding field padding
 padding-field file whole = ap spelt (take-all (padWidth (profileOf file)) (padding file) (omega (arith, padding-width file whole)))
 
--- what is written is bytes, each of its eight bits
+-- eight bits spell a byte
 spelt-byte : (l : List ℕ) → Binary l → spelt (take 8 l) < 256
 spelt-byte l h =
     lt-of-lt-of-le (spelt-fits (take 8 l) (binary-take 8 l h)) (pow-mono {j = 8} (omega (arith, length-take 8 l)))
 
+-- so bits are made into bytes
 bytes-are-bytes : (n : ℕ) (l : List ℕ) → Binary l → Bytes (bytesOf n l)
 unfolding bytesOf
 bytes-are-bytes zero l h x m = elim m [ ]
-bytes-are-bytes (suc n) l h x m = split (λ t. bytes-are-bytes n (drop 8 l) (binary-drop 8 l h) x t) (List·Memᴰ·cases-cons m)
-  where
-    split : (List·Memᴰ x (bytesOf n (drop 8 l)) → x < 256) → (x ≡ spelt (take 8 l)) ⊎ List·Memᴰ x (bytesOf n (drop 8 l)) → x < 256
-    split rest (inl e) = rw e (spelt-byte l h)
-    split rest (inr t) = rest t
+bytes-are-bytes (suc n) l h x m = cons-each (spelt-byte l h) (bytes-are-bytes n (drop 8 l) (binary-drop 8 l h)) x m
 
+-- and what is written is bytes
 pub written-bytes : (p : Profile) → Bytes (written p)
 unfolding written
 written-bytes p = bytes-are-bytes (byteCount p) (padded p) (binary-padded p)

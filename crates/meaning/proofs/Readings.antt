@@ -4,10 +4,10 @@
 -- numbered k is at the time (b_k - b_{k-1}) / (r_{k-1} - r_k). The byte counts of profile files, and that what is read is in range.
 -- Assumes nothing.
 use mathlib.Core.Path.{_≡_, refl, sym, _∙_, ap}
-use mathlib.Core.Logic.{_⊎_, inl, inr, _↔_}
+use mathlib.Core.Logic.{inl, inr, _↔_}
 use mathlib.Core.List.{List, [], _∷_, List·Memᴰ·head, List·Memᴰ·tail}
-use Prim.Native.Nat.{ℕ, zero, suc, _+_, _-_, _*_, _≤_, _<_}
-use native.Mathlib.Nat.{le-of-lt, mul-le-mul-right, lt-of-mul-lt-mul-right}
+use Prim.Native.Nat.{ℕ, suc, _+_, _-_, _*_, _≤_, _<_}
+use native.Mathlib.Nat.{le-of-lt}
 use native.Mathlib.Decide.{ℕ-discrete}
 use native.Mathlib.Omega.{arith}
 use lib.ListN.{length, getD}
@@ -16,7 +16,9 @@ use Rattle.meaning.specs.Server.{Server, Instant, served, reads, Greates
 use Rattle.meaning.specs.Refusal.{AllInRange}
 use Rattle.meaning.specs.Profile.{written, field, profileOf, curve, bucketsOf}
 use Rattle.meaning.proofs.Order.{le-or-lt, lt-or-eq-or-gt}
-use Rattle.meaning.proofs.Value.{value-least, value-reached}
+use Rattle.meaning.proofs.Lists.{at-inside, falling-at}
+use Rattle.meaning.proofs.Value.{same-rate, value-least, value-reached}
+use Rattle.meaning.proofs.Neighbours.{meet, meet-at, below-rises}
 use Rattle.meaning.proofs.Joining.{served-past}
 use Rattle.meaning.proofs.Excess.{numbered}
 use Rattle.meaning.proofs.Profiles.{curve-bytes, held-curve, held-server, buckets-in-range}
@@ -26,12 +28,6 @@ use Rattle.meaning.proofs.Profiles.{curve-bytes, held-curve, held-serve
 -- The bucket at a position, positions counted from 0.
 abbrev pub bucket : List Bucket → ℕ → Bucket
 bucket f i = getD f i (record { rate = 0; burst = 0 })
-
--- the bucket at a position of a list stands in it
-bucket-inside : (f : List Bucket) (i : ℕ) → i < length f → bucket f i ∈ f
-bucket-inside [] i h = absurd (omega arith)
-bucket-inside (k ∷ f) zero h = List·Memᴰ·head refl
-bucket-inside (k ∷ f) (suc i) h = List·Memᴰ·tail (bucket-inside f i (omega arith))
 
 -- What stands in a list has a position.
 record Position (f : List Bucket) (k : Bucket) : Type 0 where
@@ -49,13 +45,6 @@ position (List·Memᴰ·tail m) =
 abbrev pub FallingAt : List Bucket → Type 0
 FallingAt f = (i j : ℕ) → i < j → j < length f → bucket f j .rate < bucket f i .rate
 
-falling-at : (f : List Bucket) → Falling f → FallingAt f
-unfolding Falling
-falling-at [] h i j l m = absurd (omega arith)
-falling-at (k ∷ f) h i zero l m = absurd (omega arith)
-falling-at (k ∷ f) h zero (suc j) l m = h .0 (bucket f j) (bucket-inside f j (omega arith))
-falling-at (k ∷ f) h (suc i) (suc j) l m = falling-at f (h .1) i j (omega arith) (omega arith)
-
 at-falling : (f : List Bucket) → FallingAt f → Falling f
 unfolding Falling
 at-falling [] h = tt
@@ -66,20 +55,17 @@ at-falling (k ∷ f) h = (later, at-falling f (λ i j l m. h (suc i) (suc j) (om
 
 -- rates fall strictly exactly when they do by positions
 pub falling-by-position : (f : List Bucket) → Falling f ↔ FallingAt f
-falling-by-position f = (falling-at f, at-falling f)
+falling-by-position f = (λ h. falling-at f h _, at-falling f)
 
 -- where rates fall strictly, buckets at different positions are different
 pub other-by-position :
     (f : List Bucket) → Falling f → (i j : ℕ) → i < length f → j < length f → (j ≡ i → ⊥) → bucket f j ≡ bucket f i → ⊥
-other-by-position f h i j l m other e = split (lt-or-eq-or-gt i j)
-  where
-    rates : bucket f j .rate ≡ bucket f i .rate
-    rates = ap (λ (k : Bucket). k .rate) e
-
-    split : (i < j) ⊎ ((i ≡ j) ⊎ (j < i)) → ⊥
-    split (inl before) = omega (arith, falling-at f h i j before m, rates)
-    split (inr (inl same)) = other (sym same)
-    split (inr (inr after)) = omega (arith, falling-at f h j i after l, rates)
+other-by-position f h i j l m other e =
+    elim (lt-or-eq-or-gt i j) [
+      | inl before ↦ omega (arith, falling-by-position f .0 h i j before m, same-rate e)
+      | inr (inl same) ↦ other (sym same)
+      | inr (inr after) ↦ omega (arith, falling-by-position f .0 h j i after l, same-rate e)
+    ]
 
 -- There is a positive time p/q at which the bucket at a position lies strictly below the bucket at every other position.
 pub record UsefulAt (f : List Bucket) (i : ℕ) : Type 0 where
@@ -100,7 +86,7 @@ useful-by-position f h i l = (to, from)
           q = u .q;
           p-positive = u .p-positive;
           q-positive = u .q-positive;
-          below = λ j m other. u .below (bucket f j) (bucket-inside f j m) (other-by-position f h i j l m other);
+          below = λ j m other. u .below (bucket f j) (at-inside f j _ m) (other-by-position f h i j l m other);
         }
 
     from : UsefulAt f i → Useful f (bucket f i)
@@ -126,8 +112,8 @@ normal-by-position f = (to, from)
     to n =
         record {
           some = n .some;
-          falling = falling-at f (n .falling);
-          useful = λ i h. useful-by-position f (n .falling) i h .0 (n .useful (bucket f i) (bucket-inside f i h));
+          falling = falling-at f (n .falling) _;
+          useful = λ i h. useful-by-position f (n .falling) i h .0 (n .useful (bucket f i) (at-inside f i _ h));
         }
 
     from : NormalAt f → NormalForm f
@@ -189,14 +175,14 @@ module _ {a b : Instant → ℕ} {n : ℕ} where
 
   -- and the other way round where nothing is taken away at 0
   pub difference-is-gap : b 0 ≡ 0 → GreatestDifference a b n → GreatestGap a b n
-  difference-is-gap none d = split (le-or-lt 1 n)
+  difference-is-gap none d =
+      elim (le-or-lt 1 n) [
+        | inl h ↦ record { at = d .at; reached = omega (arith, d .reached); greatest = every }
+        | inr h ↦ record { at = 0; reached = omega (arith, every 0); greatest = every }
+      ]
     where
       every : (u : Instant) → a u ≤ b u + n
       every u = omega (arith, d .greatest u)
-
-      split : (1 ≤ n) ⊎ (n < 1) → GreatestGap a b n
-      split (inl h) = record { at = d .at; reached = omega (arith, d .reached); greatest = every }
-      split (inr h) = record { at = 0; reached = omega (arith, every 0); greatest = every }
 
 -- the backlog is the greatest difference of value and service
 pub backlog-is-difference : (f : List Bucket) (s : Server) (n : ℕ) → Backlog f s n ↔ GreatestDifference (reads f) (served s) n
@@ -207,15 +193,6 @@ pub excess-is-difference : (f : List Bucket) (rate n : ℕ) → Excess f rate n 
 excess-is-difference f rate n = (gap-is-difference, difference-is-gap (omega arith))
 
 -- ---- Crossing: the time at which the two neighbours have one value is (b_k - b_{k-1}) / (r_{k-1} - r_k).
-
--- a bucket steeper than another by v, and lower at 0 by w, meets it at w/v
-meet-at :
-    (k j : Bucket) (v w p q : ℕ) → j .rate + v ≡ k .rate → k .burst + w ≡ j .burst → bucketAt k p q ≡ bucketAt j p q ↔ (w * q ≡ v * p)
-unfolding bucketAt
-meet-at k j v w p q steeper lower = (
-  λ e. omega (arith, ap (λ x. x * p) steeper, ap (λ x. x * q) lower),
-  λ e. omega (arith, ap (λ x. x * p) steeper, ap (λ x. x * q) lower),
-)
 
 -- p/q is (b_k - b_{k-1}) / (r_{k-1} - r_k).
 abbrev pub CrossingTime : List Bucket → ℕ → ℕ → ℕ → Type 0
@@ -228,11 +205,10 @@ module _ (f : List Bucket) (k p q : ℕ) where
       numbered f k .rate ≤ numbered f (k - 1) .rate → numbered f (k - 1) .burst ≤ numbered f k .burst
       → Crossing f k p q ↔ CrossingTime f k p q
   unfolding Crossing
-  crossing-time falls rises = meet-at (numbered f (k - 1)) (numbered f k) _ _ p q (omega arith) (omega arith)
+  crossing-time falls rises = meet-at (meet (numbered f (k - 1)) (numbered f k) falls rises) p q
 
   -- so it is for every two neighbours in normal form
   pub normal-crossing : NormalForm f → 1 < k → k ≤ length f → Crossing f k p q ↔ CrossingTime f k p q
-  unfolding bucketAt
   normal-crossing n h l = crossing-time (le-of-lt falls) (le-of-lt rises)
     where
       by : NormalAt f
@@ -245,26 +221,26 @@ module _ (f : List Bucket) (k p q : ℕ) where
       before = by .useful (k - 1 - 1) (omega arith)
 
       rises : numbered f (k - 1) .burst < numbered f k .burst
-      rises =
-          lt-of-mul-lt-mul-right (before .q)
-          (omega (arith, before .below (k - 1) (omega arith) (omega arith), mul-le-mul-right (before .p) (le-of-lt falls)))
+      rises = below-rises _ _ _ _ (le-of-lt falls) (before .below (k - 1) (omega arith) (omega arith))
 
 -- ---- The profile file.
 
--- the byte counts of curves of one, two and 64 buckets
+-- a curve of one bucket has 10 bytes,
 pub one-bucket-bytes : (f : List Bucket) → length f ≡ 1 → length (written (curve f)) ≡ 10
 one-bucket-bytes f e = omega (arith, curve-bytes f)
 
+-- one of two has 17,
 pub two-bucket-bytes : (f : List Bucket) → length f ≡ 2 → length (written (curve f)) ≡ 17
 two-bucket-bytes f e = omega (arith, curve-bytes f)
 
+-- and one of 64 has 482
 pub longest-bytes : (f : List Bucket) → length f ≡ 64 → length (written (curve f)) ≡ 482
 longest-bytes f e = omega (arith, curve-bytes f)
 
 -- the buckets that a file holds are in range
 pub read-in-range : (file : List ℕ) → AllInRange (bucketsOf (profileOf file))
-read-in-range file = split (ℕ-discrete (field file 4 4) 1)
-  where
-    split : Dec (field file 4 4 ≡ 1) → AllInRange (bucketsOf (profileOf file))
-    split (yes e) = rw (held-curve file e) (buckets-in-range file 14 _)
-    split (no e) = rw (held-server file e) (λ k m. elim m [ ])
+read-in-range file =
+    elim (ℕ-discrete (field file 4 4) 1) [
+      | yes e ↦ rw (held-curve file e) (buckets-in-range file 14 _)
+      | no e ↦ rw (held-server file e) (λ k m. elim m [ ])
+    ]

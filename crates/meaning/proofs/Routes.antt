@@ -3,7 +3,7 @@
 -- And what a reported route adds up to: its backlog is the last hop's, and its delay is at most the hops' delays added.
 -- Assumes nothing.
 use mathlib.Core.Path.{_≡_, refl, sym, _∙_, ap}
-use mathlib.Core.Logic.{_⊎_, inl, inr}
+use mathlib.Core.Logic.{inl, inr}
 use mathlib.Core.Option.{Option, none, some}
 use mathlib.Core.List.{List, [], _∷_, _++_}
 use Prim.Native.Nat.{ℕ, _+_, _-_, _≤_, _<_}
@@ -15,13 +15,14 @@ use Rattle.meaning.specs.Server.{Server, reads, join, Behind, Delay}
 use Rattle.meaning.specs.Refusal.{Refusal, HEADER, LENGTH, PAD, LIST, COUNT, RANGE, FORM, UNBOUNDED, LARGE, ROOM, number, Lines, Wins, Clear}
 use Rattle.meaning.specs.ServerQuestions.{portLines}
 use Rattle.meaning.specs.Route.{joinedWith, Figures, FiguresOf, Report, passed, refusedAt, Onward, ends, bytes-left, stops, hop, Reported, no-curve, from-curve, text, Route}
-use Rattle.meaning.proofs.Order.{le-or-lt}
+use Rattle.meaning.proofs.Lists.{buckets-flat}
 use Rattle.meaning.proofs.Outcomes.{wins-once}
 use Rattle.meaning.proofs.Excess.{gap-unique}
-use Rattle.meaning.proofs.Delay.{delay-unique, delay-of-nothing, delay-from-excess}
+use Rattle.meaning.proofs.Delay.{delay-of-nothing, delay-from-excess}
 use Rattle.meaning.proofs.HopByHop.{behind-unique, hop-by-hop, joined-delay}
-use Rattle.meaning.proofs.Joining.{rounded-up-is}
+use Rattle.meaning.proofs.Joining.{smallest-unique, rounded-up-is}
 use Rattle.meaning.proofs.Behind.{backlog-behind}
+use Rattle.meaning.proofs.Demands.{port-form, port-server}
 
 -- the refusal of a number
 named : ℕ → Refusal
@@ -48,11 +49,11 @@ number-names-one {r} {s} e = sym (named-number r) ∙ ap named e ∙ named-numbe
 
 -- a server has one backlog and one delay for a curve
 figures-unique : {f : List Bucket} {s : Server} {x y : Figures} → FiguresOf f s x → FiguresOf f s y → x ≡ y
-figures-unique {f} {s} v w =
+figures-unique v w =
     λ i.
     record {
       backlog = gap-unique (v .backlog-is) (w .backlog-is) i;
-      delay = delay-unique f s (v .delay-is) (w .delay-is) i;
+      delay = smallest-unique (v .delay-is) (w .delay-is) i;
     }
 
 -- a server is not none
@@ -134,7 +135,11 @@ Sofar first hops (some joined) f = Through first hops joined f
 
 -- where a curve stands behind a server, there are a backlog and a delay
 figures-exist : {f g : List Bucket} {s : Server} → 1 ≤ length f → 1 ≤ s .rate → Behind f s g → (x : Figures) × FiguresOf f s x
-figures-exist {f} {g} {s} filled serves b = split (ℕ-discrete (reads f 1) 0)
+figures-exist {f} {g} {s} filled serves b =
+    elim (ℕ-discrete (reads f 1) 0) [
+      | yes e ↦ with-delay (delay-of-nothing f s filled e)
+      | no e ↦ with-delay (delay-from-excess f s _ (b .excess) (rounded-up-is (b .m) (s .rate) serves) e)
+    ]
   where
     with-delay : {d : ℕ} → Delay f s d → (x : Figures) × FiguresOf f s x
     with-delay {d} h = (
@@ -142,23 +147,13 @@ figures-exist {f} {g} {s} filled serves b = split (ℕ-discrete (reads f 1) 0)
       record { backlog-is = backlog-behind filled b; delay-is = h },
     )
 
-    split : Dec (reads f 1 ≡ 0) → (x : Figures) × FiguresOf f s x
-    split (yes e) = with-delay (delay-of-nothing f s filled e)
-    split (no e) = with-delay (delay-from-excess f s _ (b .excess) (rounded-up-is (b .m) (s .rate) serves) e)
-
 -- a curve that no line refuses has a bucket
 port-filled : (f : List Bucket) (s : Server) → Clear (portLines (flat f) s) → 1 ≤ length f
-unfolding flat
-port-filled [] s clear = absurd (clear LIST (inl (inl (inl (inl (inl (refl, inl refl)))))))
-port-filled (k ∷ f) s clear = omega arith
+port-filled f s clear = rw buckets-flat at (port-form (flat f) s clear .some)
 
 -- a server that no line refuses serves something
 port-serves : (f : List Bucket) (s : Server) → Clear (portLines (flat f) s) → 1 ≤ s .rate
-port-serves f s clear = split (le-or-lt 1 (s .rate))
-  where
-    split : (1 ≤ s .rate) ⊎ (s .rate < 1) → 1 ≤ s .rate
-    split (inl h) = h
-    split (inr h) = absurd (clear RANGE (inl (inr (refl, λ range. omega (arith, range .rate-some)))))
+port-serves f s clear = port-server (flat f) s clear .rate-some
 
 -- A hop that is answered, with the hops before it:
 module _
@@ -196,17 +191,15 @@ module _
     unfolding join
     through none e =
         rw (← e)
-        (passes (port-filled f s clear) (port-serves f s clear) b (λ n h. omega (arith, delay-unique f s h (x .delay-is))))
+        (passes (port-filled f s clear) (port-serves f s clear) b (λ n h. omega (arith, smallest-unique h (x .delay-is))))
     through {first} (some joined) t =
         passes (t .filled) (omega (arith, t .serves, port-serves f s clear)) (hop-by-hop (t .filled) (t .stands) b) within
       where
         within : (n : ℕ) → Delay first (join joined s) n → n ≤ delays hops + here .delay
-        within n h = from (figures-exist (t .filled) (t .serves) (t .stands))
-          where
-            from : (so-far : Figures) × FiguresOf first joined so-far → n ≤ delays hops + here .delay
-            from (so-far, y) =
-                omega
-                (arith, joined-delay s (t .filled) (t .stands) (y .delay-is) (x .delay-is) h, t .line so-far y .delay-within)
+        within n h =
+            let y = figures-exist (t .filled) (t .serves) (t .stands) in
+            omega
+            (arith, joined-delay s (t .filled) (t .stands) (y .1 .delay-is) (x .delay-is) h, t .line (y .0) (y .1) .delay-within)
 
 -- What a report says of its route, if it has one.
 abbrev Says : Report → Type 0

@@ -4,19 +4,19 @@
 -- Assumes nothing.
 use mathlib.Core.Path.{_≡_, refl, sym, _∙_, ap}
 use mathlib.Core.Logic.{_⊎_, inl, inr, _≢_}
-use mathlib.Core.List.{List, [], _∷_, _++_, append-assoc, List·Memᴰ·head, List·Memᴰ·tail}
-use Prim.Native.Nat.{ℕ, zero, suc, _+_, _-_, _*_, _%_, _≤_, _<_}
+use mathlib.Core.List.{List, [], _∷_, _++_, append-assoc}
+use Prim.Native.Nat.{ℕ, _+_, _-_, _*_, _%_, _≤_, _<_}
 use native.Mathlib.Omega.{arith}
 use lib.Dec.{lit≤}
 use lib.ListN.{length, take, drop, getD, length-append, length-take, length-drop, List·getD-append}
 use lib.Seq.{take-at, length-take-le, getD-take, getD-drop}
-use Rattle.meaning.specs.Curve.{Bucket, _∈_, flat, Falling}
-use Rattle.meaning.specs.Refusal.{Refusal, LIST, COUNT, RANGE, FORM, LARGE, ROOM, number, Lines, _or_, Wins, Clear, Verdict, rawLines, curveLines, TooLarge, answerLines, over, Answered, Question, allLines, Outcome, part, PartOutcome, FigureOutcome}
+use Rattle.meaning.specs.Curve.{Bucket, buckets, flat}
+use Rattle.meaning.specs.Refusal.{Refusal, LIST, COUNT, RANGE, FORM, LARGE, ROOM, number, Lines, _or_, Wins, Clear, Verdict, rawLines, curveLines, TooLarge, answerLines, over, Question, allLines, Outcome, part, PartOutcome, FigureOutcome}
 use Rattle.meaning.specs.CurveQuestions.{normalising, lowering, summing}
 use Rattle.meaning.proofs.Order.{le-or-lt}
-use Rattle.meaning.proofs.Outcomes.{From, UpTo, from-when, from-or, up-to-when, up-to-or, three-parts}
-use Rattle.meaning.proofs.Lists.{flat-length, flat-rate, over-start, drop-behind, empty-same}
-use Rattle.meaning.proofs.Answers.{AsksNormal, single-normal, code-zero, code-wins, wins-code, outcome-code, answered-so, outcome-length, only-answered, p1-raw, p1-outcome, p2-raw, p2-outcome, p3-raw, p3-outcome}
+use Rattle.meaning.proofs.Outcomes.{From, from-when, from-or, three-parts}
+use Rattle.meaning.proofs.Lists.{flat-rate, falling-at, over-start, drop-behind, empty-same}
+use Rattle.meaning.proofs.Answers.{AsksNormal, single-normal, code-zero, code-wins, wins-code, outcome-code, curve-up-to, AnsweredList, answered-list, answered-length, outcome-length, only-answered, p1-raw, p1-outcome, p2-raw, p2-outcome, p3-raw, p3-outcome}
 
 -- ---- One bucket past the part.
 
@@ -37,15 +37,15 @@ module _
     -- nothing before the part changes
     pub before-part : take at after ≡ take at before
     unfolding part
-    before-part = split (le-or-lt at (length before))
-      where
-        split : (at ≤ length before) ⊎ (length before < at) → take at after ≡ take at before
-        split (inl h) =
-            ap (take at) (v .outside ∙ append-assoc (take at before) (part at room after) (drop room (drop at before)))
-            ∙ take-at (take at before) (part at room after ++ drop room (drop at before)) at (length-take-le at before h)
-        split (inr h) =
-            let none : length (part at room before) ≡ 0 = simp (length-take, length-drop) (omega arith) in
-            ap (take at) (part-kept (empty-same (part at room after) (part at room before) (part-length ∙ none) none))
+    before-part =
+        elim (le-or-lt at (length before)) [
+          | inl h ↦
+              ap (take at) (v .outside ∙ append-assoc (take at before) (part at room after) (drop room (drop at before)))
+              ∙ take-at (take at before) (part at room after ++ drop room (drop at before)) at (length-take-le at before h)
+          | inr h ↦
+              let none : length (part at room before) ≡ 0 = simp (length-take, length-drop) (omega arith) in
+              ap (take at) (part-kept (empty-same (part at room after) (part at room before) (part-length ∙ none) none))
+        ]
 
     -- nothing after it changes
     pub after-part : drop (at + room) after ≡ drop (at + room) before
@@ -101,59 +101,43 @@ refusal-figure (FigureOutcome.answered clear e x) some = absurd (some e)
 
 -- ---- A kept duplicate.
 
--- the bucket numbered i stands in the list
-numbered-inside : (f : List Bucket) (i : ℕ) (k : Bucket) → i < length f → getD f i k ∈ f
-numbered-inside [] i k h = absurd (omega arith)
-numbered-inside (j ∷ f) zero k h = List·Memᴰ·head refl
-numbered-inside (j ∷ f) (suc i) k h = List·Memᴰ·tail (numbered-inside f i k (omega arith))
-
--- rates fall from each bucket to each later one
-rates-fall :
-    (f : List Bucket) → Falling f → (i j : ℕ) (k : Bucket) → i < j → j < length f → getD f j k .rate < getD f i k .rate
-unfolding Falling
-rates-fall [] fall i j k l h = absurd (omega arith)
-rates-fall (b ∷ f) fall i zero k l h = absurd (omega arith)
-rates-fall (b ∷ f) fall zero (suc j) k l h = fall .0 (getD f j k) (numbered-inside f j k (omega arith))
-rates-fall (b ∷ f) fall (suc i) (suc j) k l h = rates-fall f (fall .1) i j k (omega arith) (omega arith)
-
--- the number at 2 * i of an answered list is the rate of the bucket numbered i
+-- the number at 2 * i of an answered list is the rate of the bucket at position i
 rate-written :
-    {lines : Lines} {Answer : List Bucket → Type 0} {before after : List ℕ} {code count : ℕ}
-    (v : Answered lines Answer before after code count) (i : ℕ) (k : Bucket) → i < count
-    → getD after (2 * i) 0 ≡ getD (v .curve) i k .rate
+    {ask : Question} {before after : List ℕ} {count : ℕ} {g : List ℕ} (a : AnsweredList ask before after count g) (i : ℕ) (k : Bucket)
+    → i < count → getD after (2 * i) 0 ≡ getD (buckets g) i k .rate
 unfolding over
-rate-written {before = before} v i k h =
-    ap (λ (l : List ℕ). getD l (2 * i) 0) (v .written)
-    ∙ List·getD-append (flat (v .curve)) _ 0 (2 * i) (omega (arith, v .count-is, flat-length (v .curve)))
-    ∙ flat-rate (v .curve) i k (omega (arith, v .count-is))
+rate-written {g = g} a i k h =
+    ap (λ (l : List ℕ). getD l (2 * i) 0) (a .written)
+    ∙ List·getD-append g _ 0 (2 * i) (omega (arith, answered-length a))
+    ∙ ap (λ (l : List ℕ). getD l (2 * i) 0) (sym (a .numbers))
+    ∙ flat-rate (buckets g) i k (omega (arith, a .count-is))
 
 -- an answered list never holds two buckets of one rate: the rates in it fall strictly
 pub one-rate-once :
     {ask : Question} {raw : List Bucket} {before after : List ℕ} {count : ℕ} → AsksNormal ask raw
     → Outcome ask before after 0 count → (i j : ℕ) → i < j → j < count → getD after (2 * j) 0 < getD after (2 * i) 0
 one-rate-once asks o i j l h =
-    let v = answered-so o refl in
+    let a = answered-list o in
     let k : Bucket = record { rate = 0; burst = 0 } in
-    let fall = asks .answer-is (v .curve) (v .right) .form .falling in
-    rw (rate-written v i k (omega arith), rate-written v j k h)
-    (rates-fall (v .curve) fall i j k l (omega (arith, v .count-is)))
+    rw (rate-written a i k (omega arith), rate-written a j k h)
+    (falling-at _ (asks .answer-is _ (a .right) .form .falling) k i j l (omega (arith, a .count-is)))
 
 -- P1 with (10, 2) kept twice
 pub kept-duplicate :
     {before : List ℕ} → Outcome (normalising p1-raw) before (over (10 ∷ 2 ∷ 10 ∷ 2 ∷ 3 ∷ 20 ∷ []) before) 0 3 → ⊥
-kept-duplicate o = omega (arith, only-answered p1-outcome o .0)
+kept-duplicate o = omega (arith, only-answered p1-outcome o .figure-same)
 
 -- ---- Usefulness.
 
 -- judged by < in place of ≤ (useless only where something is strictly lower): P2 with (3, 1) kept, though all three meet at 1
 pub useful-by-less :
     {before : List ℕ} → Outcome (normalising p2-raw) before (over (4 ∷ 0 ∷ 3 ∷ 1 ∷ 2 ∷ 2 ∷ []) before) 0 3 → ⊥
-useful-by-less o = omega (arith, only-answered p2-outcome o .0)
+useful-by-less o = omega (arith, only-answered p2-outcome o .figure-same)
 
 -- judged at whole ticks only: P3 with (4, 2) dropped
 pub useful-at-ticks :
     {before : List ℕ} → Outcome (normalising p3-raw) before (over (10 ∷ 0 ∷ 0 ∷ 5 ∷ []) before) 0 2 → ⊥
-useful-at-ticks o = omega (arith, only-answered p3-outcome o .0)
+useful-at-ticks o = omega (arith, only-answered p3-outcome o .figure-same)
 
 -- ---- The order of the refusals.
 
@@ -165,12 +149,6 @@ raw-from l = from-or (from-or (from-when LIST (lit≤ tt)) (from-when COUNT (lit
 curve-from : (l : List ℕ) → From 4 (curveLines l)
 unfolding number
 curve-from l = from-or (raw-from l) (from-when FORM (lit≤ tt))
-
-curve-up-to : (l : List ℕ) → UpTo 7 (curveLines l)
-unfolding number
-curve-up-to l =
-    up-to-or (up-to-or (up-to-or (up-to-when LIST (lit≤ tt)) (up-to-when COUNT (lit≤ tt))) (up-to-when RANGE (lit≤ tt)))
-    (up-to-when FORM (lit≤ tt))
 
 answer-from : {n room : ℕ} (Answer : List Bucket → Type 0) → n ≤ 9 → From n (answerLines Answer room)
 unfolding number
@@ -222,6 +200,7 @@ module _ {before after : List ℕ} {code count : ℕ} (f g : List ℕ) where
   unfolding lowering
   lower-second-counts w first o = second-counts f g _ w first (outcome-code o)
 
+  -- of a sum too,
   pub sum-second-counts :
       {r : Refusal} → Wins (curveLines g) r → From (number r) (curveLines f) → Outcome (summing f g) before after code count
       → code ≡ number r
@@ -233,6 +212,7 @@ module _ {before after : List ℕ} {code count : ℕ} (f g : List ℕ) where
   unfolding number
   lower-second-list h = lower-second-counts (list-wins g h) (curve-from f)
 
+  -- For a sum too.
   pub sum-second-list : EmptyOrOdd g → Outcome (summing f g) before after code count → code ≡ 4
   unfolding number
   sum-second-list h = sum-second-counts (list-wins g h) (curve-from f)
@@ -252,7 +232,7 @@ module _ {ask : Question} {before after : List ℕ} {code count : ℕ} where
 pub fixed-reply :
     {before after : List ℕ} {code count : ℕ} → 6 ≤ length before → Outcome (normalising p1-raw) before after code count
     → Outcome (normalising p3-raw) before after code count → ⊥
-fixed-reply room o o′ = omega (arith, p1-outcome .with-room (omega arith) o .1, p3-outcome .with-room room o′ .1)
+fixed-reply room o o′ = omega (arith, p1-outcome .with-room (omega arith) o .figure-same, p3-outcome .with-room room o′ .figure-same)
 
 module _
     {ask : Question} {raw f : List Bucket} (asks : AsksNormal ask raw) (right : ask .Answer f) {before : List ℕ} {count : ℕ}
@@ -260,9 +240,9 @@ module _
     -- what is answered is the answer
     answered-curve : {after : List ℕ} → Outcome ask before after 0 count → (count ≡ length f) × (after ≡ over (flat f) before)
     answered-curve o =
-        let v = answered-so o refl in
-        let e = single-normal asks (v .curve) f (v .right) right in
-        (v .count-is ∙ ap length e, v .written ∙ ap (λ (g : List Bucket). over (flat g) before) e)
+        let a = answered-list o in
+        let e = single-normal asks _ f (a .right) right in
+        (a .count-is ∙ ap length e, a .written ∙ ap (λ (l : List ℕ). over l before) (sym (a .numbers) ∙ ap flat e))
 
     -- one that writes nothing: code 0 over a list that stays, though it does not begin with the answer
     pub writes-nothing : take (length (flat f)) before ≢ flat f → Outcome ask before before 0 count → ⊥

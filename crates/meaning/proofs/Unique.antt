@@ -1,43 +1,39 @@
 -- A curve has one normal form: two lists in normal form with the same value at every positive fraction are the same list.
 -- A bucket of the one is strictly lowest at some time, and so lowest at a time shortly before and at one shortly after. A bucket
 -- of the other that has the value in between is nowhere below the common value, so it has the same rate and the same burst.
+-- So the buckets of a normal form are among those of the raw list.
 -- Assumes nothing.
 use mathlib.Core.Path.{_≡_, refl, sym, _∙_, ap}
-use mathlib.Core.Logic.{_⊎_, inl, inr}
+use mathlib.Core.Logic.{inl, inr}
 use mathlib.Core.List.{List, [], _∷_, List·Memᴰ·head, List·Memᴰ·tail, List·Memᴰ·cases-cons, Memᴰ·cast}
 use Prim.Native.Nat.{ℕ, _+_, _-_, _*_, _≤_, _<_}
 use native.Mathlib.Nat.{le-of-eq, le-of-lt, le-trans, le-antisymm, mul-pos, mul-le-mul-left}
 use native.Mathlib.Omega.{arith}
 use lib.ListN.{length}
 use Rattle.meaning.specs.Curve.{Bucket, _∈_, bucketAt, valueAt, Falling, Useful, NormalForm, NormalOf}
-use Rattle.meaning.proofs.Value.{Reached, value-least, value-reached, value-unique}
+use Rattle.meaning.proofs.Value.{Reached, same-rate, value-least, value-reached, value-unique}
 use Rattle.meaning.proofs.Lowest.{least-of-others, rates-below, bucket-later, meet-same}
-
--- the same bucket has the same rate
-same-rate : {k j : Bucket} → k ≡ j → k .rate ≡ j .rate
-same-rate e = ap (λ (x : Bucket). x .rate) e
 
 -- of two lists with falling rates, each holding the other's first bucket, the first buckets are the same
 falling-same-first :
     (k j : Bucket) (f g : List Bucket) → Falling (k ∷ f) → Falling (j ∷ g) → k ∈ (j ∷ g) → j ∈ (k ∷ f) → k ≡ j
 unfolding Falling
-falling-same-first k j f g hf hg m n = split (List·Memᴰ·cases-cons m) (List·Memᴰ·cases-cons n)
-  where
-    split : (k ≡ j) ⊎ (k ∈ g) → (j ≡ k) ⊎ (j ∈ f) → k ≡ j
-    split (inl e) b = e
-    split (inr a) (inl e) = sym e
-    split (inr a) (inr b) = absurd (omega (arith, hf .0 j b, hg .0 k a))
+falling-same-first k j f g hf hg m n =
+    elim (List·Memᴰ·cases-cons m) [
+      | inl e ↦ e
+      | inr a ↦ elim (List·Memᴰ·cases-cons n) [ inl e ↦ sym e | inr b ↦ absurd (omega (arith, hf .0 j b, hg .0 k a)) ]
+    ]
 
 -- the buckets after the first are then among those after the first
 falling-rest :
     (k j : Bucket) (f g : List Bucket) → k ≡ j → Falling (k ∷ f) → ((i : Bucket) → i ∈ (k ∷ f) → i ∈ (j ∷ g)) → (i : Bucket)
     → i ∈ f → i ∈ g
 unfolding Falling
-falling-rest k j f g e hf all i m = split (List·Memᴰ·cases-cons (all i (List·Memᴰ·tail m)))
-  where
-    split : (i ≡ j) ⊎ (i ∈ g) → i ∈ g
-    split (inl d) = absurd (omega (arith, hf .0 i m, same-rate e, same-rate d))
-    split (inr n) = n
+falling-rest k j f g e hf all i m =
+    elim (List·Memᴰ·cases-cons (all i (List·Memᴰ·tail m))) [
+      | inl d ↦ absurd (omega (arith, hf .0 i m, same-rate e, same-rate d))
+      | inr n ↦ n
+    ]
 
 -- two lists with strictly falling rates and the same buckets are the same
 pub falling-same-members :
@@ -146,6 +142,10 @@ normal-unique {f} {g} hf hg same =
     falling-same-members f g (hf .falling) (hg .falling)
     (λ k m. useful-in-both same m (hf .useful k m) (hg .some))
     (λ k m. useful-in-both (λ p q hp hq. sym (same p q hp hq)) m (hg .useful k m) (hf .some))
+
+-- the buckets of a normal form are buckets of the raw list
+pub normal-inside : {raw f : List Bucket} {k : Bucket} → 1 ≤ length raw → NormalOf raw f → k ∈ f → k ∈ raw
+normal-inside filled n m = useful-in-both (λ p q hp hq. sym (n .same p q hq)) m (n .form .useful _ m) filled
 
 -- a list has one normal form
 pub normal-of-unique : {raw f g : List Bucket} → NormalOf raw f → NormalOf raw g → f ≡ g

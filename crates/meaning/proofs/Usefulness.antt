@@ -2,19 +2,21 @@
 -- below every bucket seen so far: a bucket more narrows them as its crossing says, and some time lies between them exactly where
 -- their cross products say so.
 -- Assumes nothing.
-use mathlib.Core.Path.{_≡_, refl, sym, _∙_, ap, subst}
+use mathlib.Core.Path.{_≡_, refl, sym, _∙_, ap}
 use mathlib.Core.Bool.{Bool, true, false, true≢false, and-eq-true-iff}
 use mathlib.Core.Logic.{_⊎_, inl, inr}
-use mathlib.Core.List.{List, [], _∷_, List·Memᴰ·head, List·Memᴰ·tail, List·Memᴰ·cases-cons, List·Memᴰ·not-nil}
+use mathlib.Core.List.{List, [], _∷_, List·Memᴰ·head, List·Memᴰ·tail, List·Memᴰ·not-nil}
 use Prim.Native.Nat.{ℕ, _+_, _-_, _*_, _≤_, _<_}
-use native.Mathlib.Nat.{mul-pos, mul-le-mul-left, mul-lt-mul-of-pos-left, lt-of-mul-lt-mul-left, le-antisymm, eq-or-lt-of-le}
+use native.Mathlib.Nat.{le-of-lt, mul-pos, mul-le-mul-left, mul-lt-mul-of-pos-left, lt-of-mul-lt-mul-left, le-antisymm, eq-or-lt-of-le}
 use native.Mathlib.Omega.{arith}
 use lib.Dec.{ltb}
 use borrow.Author.Tests.{ltb-true, ltb-false, lt-ltb}
 use Rattle.meaning.specs.Curve.{Bucket, _∈_, bucketAt, Useful}
 use Rattle.meaning.specs.Computed.{pick, Ends, everyTime, afterSteeper, beforeFlatter, besideEqual, narrowed, isOpen, staysOpen, isUseful}
 use Rattle.meaning.proofs.Order.{le-or-lt}
-use Rattle.meaning.proofs.Lowest.{same-bucket}
+use Rattle.meaning.proofs.Lists.{cons-each}
+use Rattle.meaning.proofs.Lowest.{same-bucket, other-rate}
+use Rattle.meaning.proofs.Neighbours.{earlier-trans, below-rises}
 
 -- what is picked of two by a test has what each of them has where the test picks it
 pub pick-holds {ℓ} :
@@ -36,23 +38,20 @@ left-some a b h = lt-of-mul-lt-mul-left b (omega arith)
 right-some : (a b : ℕ) {n : ℕ} → n < a * b → 0 < b
 right-some a b h = lt-of-mul-lt-mul-left a (omega arith)
 
--- the time p/q lies between the ends
+-- The time p/q lies between the ends.
 pub record Between (e : Ends) (p q : ℕ) : Type 0 where
   pub after : e .low * q < p * e .lowOver
   pub before : p * e .highOver < e .high * q
 
--- such a time is positive
+-- Such a time is positive:
 module _ {e : Ends} {p q : ℕ} (t : Between e p q) where
+  -- its numerator is,
   pub time-positive : 0 < p
   time-positive = left-some p (e .lowOver) (t .after)
 
+  -- and its denominator
   pub over-positive : 0 < q
   over-positive = right-some (e .high) q (t .before)
-
--- where p/q < n/d and n/d ≤ m/o, also p/q < m/o
-wider : (n d m o p q : ℕ) → 0 < m → n * o ≤ m * d → p * d < n * q → p * o < m * q
-wider n d m o p q some h under =
-    lt-of-mul-lt-mul-left n (omega (arith, mul-le-mul-left p h, mul-lt-mul-of-pos-left under some))
 
 module _ (x y u v p q : ℕ) where
   -- x·p + y·q is less than u·p + v·q where (y - v)·q is less than p·(u - x)
@@ -64,17 +63,17 @@ module _ (x y u v p q : ℕ) where
 
   -- and only there, if x is less than u and p positive
   less-only : x < u → 0 < p → x * p + y * q < u * p + v * q → (y - v) * q < p * (u - x)
-  less-only steeper some h = split (le-or-lt y v)
+  less-only steeper some h =
+      elim (le-or-lt y v) [
+        | inl l ↦
+            let none : y - v ≡ 0 = omega arith in
+            let gap : 0 < u - x = omega arith in
+            rw none (omega (arith, mul-pos some gap))
+        | inr l ↦ crossed (u - x) (y - v) (omega arith) (omega arith)
+      ]
     where
       crossed : (n b : ℕ) → u ≡ x + n → y ≡ v + b → b * q < p * n
       crossed n b e l = omega (arith, simp (e, l) at h)
-
-      split : (y ≤ v) ⊎ (v < y) → (y - v) * q < p * (u - x)
-      split (inl l) =
-          let none : y - v ≡ 0 = omega arith in
-          let gap : 0 < u - x = omega arith in
-          rw none (omega (arith, mul-pos some gap))
-      split (inr l) = crossed (u - x) (y - v) (omega arith) (omega arith)
 
 -- Of the times between the ends e, those of which a statement holds are left between the other ends.
 pub record Leaves (e left : Ends) (Holds : ℕ → ℕ → Type 0) : Type 0 where
@@ -110,7 +109,7 @@ module _ (e : Ends) (b n : ℕ) (some : 0 < n) where
           record {
             stays = λ {p} {q} m.
                 let some-over : 0 < e .lowOver = right-some b (e .lowOver) l in
-                omega (arith, wider n b (e .lowOver) (e .low) q p some-over (omega arith) (omega arith));
+                omega (arith, earlier-trans (e .low) (e .lowOver) b n p q some-over (le-of-lt l) (m .after));
             holds = λ m. m .after;
             keeps = λ m h. omega arith;
           }
@@ -119,7 +118,7 @@ module _ (e : Ends) (b n : ℕ) (some : 0 < n) where
       kept l =
           record {
             stays = λ m. m;
-            holds = λ {p} {q} m. omega (arith, wider (e .lowOver) (e .low) n b q p some (omega arith) (omega (arith, m .after)));
+            holds = λ {p} {q} m. earlier-trans b n (e .low) (e .lowOver) p q some l (m .after);
             keeps = λ m h. m;
           }
 
@@ -132,7 +131,7 @@ module _ (e : Ends) (b n : ℕ) (some : 0 < n) where
           record {
             stays = λ {p} {q} m.
                 let some-high : 0 < e .high = left-some (e .high) n l in
-                omega (arith, wider b n (e .high) (e .highOver) p q some-high (omega arith) (m .before));
+                omega (arith, earlier-trans (e .highOver) (e .high) n b q p some-high (omega arith) (omega (arith, m .before)));
             holds = λ m. m .before;
             keeps = λ m h. omega arith;
           }
@@ -143,7 +142,7 @@ module _ (e : Ends) (b n : ℕ) (some : 0 < n) where
             stays = λ m. m;
             holds = λ {p} {q} m.
                 let product : 0 < b * e .highOver = omega (arith, mul-pos (left-some (e .high) q (m .before)) some) in
-                wider (e .high) (e .highOver) b n p q (left-some b (e .highOver) product) l (m .before);
+                omega (arith, earlier-trans n b (e .highOver) (e .high) q p (left-some b (e .highOver) product) (omega arith) (omega (arith, m .before)));
             keeps = λ m h. m;
           }
 
@@ -151,77 +150,61 @@ module _ (e : Ends) (b n : ℕ) (some : 0 < n) where
 abbrev pub Under : Bucket → Bucket → ℕ → ℕ → Type 0
 Under c j p q = (j ≡ c → ⊥) → bucketAt c p q < bucketAt j p q
 
--- a bucket of another rate or burst is another bucket
-other-rate : (c j : Bucket) → c .rate < j .rate → j ≡ c → ⊥
-other-rate c j h e = omega (arith, ap (λ (x : Bucket). x .rate) e)
+-- Seeing the bucket j, with the candidate c and the ends e:
+module _ (c j : Bucket) (e : Ends) where
+  -- a steeper bucket, a flatter one, one of the same rate
+  sees-steeper : c .rate < j .rate → Leaves e (afterSteeper c j e) (Under c j)
+  unfolding afterSteeper bucketAt
+  sees-steeper h =
+      same-left (λ p q sp sq m other. less (c .rate) (c .burst) (j .rate) (j .burst) p q m)
+      (λ p q sp sq u. less-only (c .rate) (c .burst) (j .rate) (j .burst) p q h sp (u (other-rate h)))
+      (past e (c .burst - j .burst) (j .rate - c .rate) (omega arith))
 
-other-burst : (c j : Bucket) → j .burst < c .burst → j ≡ c → ⊥
-other-burst c j h e = omega (arith, ap (λ (x : Bucket). x .burst) e)
-
-module _ (c j : Bucket) where
-  -- above c though not steeper: then of a higher burst
-  higher : (p q : ℕ) → j .rate ≤ c .rate → bucketAt c p q < bucketAt j p q → c .burst < j .burst
-  unfolding bucketAt
-  higher p q flat h = split (le-or-lt (j .burst) (c .burst))
+  sees-flatter : j .rate < c .rate → Leaves e (beforeFlatter c j e) (Under c j)
+  unfolding beforeFlatter bucketAt
+  sees-flatter h =
+      same-left (λ p q sp sq m other. omega (arith, less (c .burst) (c .rate) (j .burst) (j .rate) q p (omega (arith, m))))
+      (λ p q sp sq u. up-to p q sq (u (λ e. other-rate h (sym e))))
+      (upTo e (j .burst - c .burst) (c .rate - j .rate) (omega arith))
     where
-      split : (j .burst ≤ c .burst) ⊎ (c .burst < j .burst) → c .burst < j .burst
-      split (inl l) = absurd (omega (arith, mul-le-mul-left p flat, mul-le-mul-left q l))
-      split (inr l) = l
+      up-to :
+          (p q : ℕ) → 0 < q → bucketAt c p q < bucketAt j p q
+          → p * (c .rate - j .rate) < (j .burst - c .burst) * q
+      up-to p q sq l =
+          omega (arith, less-only (c .burst) (c .rate) (j .burst) (j .rate) q p (below-rises c j p q (omega arith) l) sq (omega arith))
 
-  module _ (e : Ends) where
-    -- a steeper bucket, a flatter one, one of the same rate
-    sees-steeper : c .rate < j .rate → Leaves e (afterSteeper c j e) (Under c j)
-    unfolding afterSteeper bucketAt
-    sees-steeper h =
-        same-left (λ p q sp sq m other. less (c .rate) (c .burst) (j .rate) (j .burst) p q m)
-        (λ p q sp sq u. less-only (c .rate) (c .burst) (j .rate) (j .burst) p q h sp (u (other-rate c j h)))
-        (past e (c .burst - j .burst) (j .rate - c .rate) (omega arith))
+  sees-equal : c .rate ≡ j .rate → Leaves e (besideEqual c j e) (Under c j)
+  unfolding besideEqual bucketAt
+  sees-equal h = picked (λ left. Leaves e left (Under c j)) _ _ never always
+    where
+      never : j .burst < c .burst → Leaves e (withHigh e 0 1) (Under c j)
+      never l =
+          record {
+            stays = λ m. absurd (omega (arith, m .before));
+            holds = λ m. absurd (omega (arith, m .before));
+            keeps = λ {p} {q} m u. absurd (omega (arith, below-rises c j p q (omega arith) (u (λ e. omega (arith, ap (λ (x : Bucket). x .burst) e)))));
+          }
 
-    sees-flatter : j .rate < c .rate → Leaves e (beforeFlatter c j e) (Under c j)
-    unfolding beforeFlatter bucketAt
-    sees-flatter h =
-        same-left (λ p q sp sq m other. omega (arith, less (c .burst) (c .rate) (j .burst) (j .rate) q p (omega (arith, m))))
-        (λ p q sp sq u. up-to p q sq (u (λ e. other-rate j c h (sym e))))
-        (upTo e (j .burst - c .burst) (c .rate - j .rate) (omega arith))
-      where
-        up-to :
-            (p q : ℕ) → 0 < q → bucketAt c p q < bucketAt j p q
-            → p * (c .rate - j .rate) < (j .burst - c .burst) * q
-        up-to p q sq l =
-            omega (arith, less-only (c .burst) (c .rate) (j .burst) (j .rate) q p (higher p q (omega arith) l) sq (omega arith))
+      always : c .burst ≤ j .burst → Leaves e e (Under c j)
+      always l =
+          record {
+            stays = λ m. m;
+            holds = λ {p} {q} m other. above p (over-positive m) other (eq-or-lt-of-le l);
+            keeps = λ m u. m;
+          }
+        where
+          above :
+              (p : ℕ) {q : ℕ} → 0 < q → (j ≡ c → ⊥) → (c .burst ≡ j .burst) ⊎ (c .burst < j .burst)
+              → bucketAt c p q < bucketAt j p q
+          above p some other (inl b) = absurd (other (same-bucket (sym h) (sym b)))
+          above p some other (inr b) = omega (arith, mul-lt-mul-of-pos-left b some, ap (λ x. x * p) h)
 
-    sees-equal : c .rate ≡ j .rate → Leaves e (besideEqual c j e) (Under c j)
-    unfolding besideEqual bucketAt
-    sees-equal h = picked (λ left. Leaves e left (Under c j)) _ _ never always
-      where
-        never : j .burst < c .burst → Leaves e (withHigh e 0 1) (Under c j)
-        never l =
-            record {
-              stays = λ m. absurd (omega (arith, m .before));
-              holds = λ m. absurd (omega (arith, m .before));
-              keeps = λ {p} {q} m u. absurd (omega (arith, higher p q (omega arith) (u (other-burst c j l))));
-            }
-
-        always : c .burst ≤ j .burst → Leaves e e (Under c j)
-        always l =
-            record {
-              stays = λ m. m;
-              holds = λ {p} {q} m other. above p (over-positive m) other (eq-or-lt-of-le l);
-              keeps = λ m u. m;
-            }
-          where
-            above :
-                (p : ℕ) {q : ℕ} → 0 < q → (j ≡ c → ⊥) → (c .burst ≡ j .burst) ⊎ (c .burst < j .burst)
-                → bucketAt c p q < bucketAt j p q
-            above p some other (inl b) = absurd (other (same-bucket (sym h) (sym b)))
-            above p some other (inr b) = omega (arith, mul-lt-mul-of-pos-left b some, ap (λ x. x * p) h)
-
-    -- seeing a bucket leaves the times at which the candidate is strictly below it
-    pub sees : Leaves e (narrowed c j e) (Under c j)
-    unfolding narrowed
-    sees =
-        picked (λ left. Leaves e left (Under c j)) _ _ sees-steeper
-        (λ l. picked (λ left. Leaves e left (Under c j)) _ _ sees-flatter (λ g. sees-equal (le-antisymm g l)))
+  -- seeing a bucket leaves the times at which the candidate is strictly below it
+  pub sees : Leaves e (narrowed c j e) (Under c j)
+  unfolding narrowed
+  sees =
+      picked (λ left. Leaves e left (Under c j)) _ _ sees-steeper
+      (λ l. picked (λ left. Leaves e left (Under c j)) _ _ sees-flatter (λ g. sees-equal (le-antisymm g l)))
 
 module _ {e : Ends} where
   -- open ends have a time between them: the mediant
@@ -244,14 +227,6 @@ module _ {e : Ends} where
 abbrev pub Below : List Bucket → Bucket → ℕ → ℕ → Type 0
 Below f c p q = (j : Bucket) → j ∈ f → Under c j p q
 
--- below the first and below the rest
-below-cons : {c j : Bucket} {f : List Bucket} (p q : ℕ) → Under c j p q → Below f c p q → Below (j ∷ f) c p q
-below-cons {c} {j} {f} p q first rest i m = split (List·Memᴰ·cases-cons m)
-  where
-    split : (i ≡ j) ⊎ (i ∈ f) → Under c i p q
-    split (inl e) = subst (λ (x : Bucket). Under c x p q) (sym e) first
-    split (inr n) = rest i n
-
 -- A time between the ends at which the candidate is strictly below every other bucket of a list.
 pub record Left (c : Bucket) (e : Ends) (f : List Bucket) : Type 0 where
   pub p : ℕ
@@ -263,19 +238,15 @@ pub record Left (c : Bucket) (e : Ends) (f : List Bucket) : Type 0 where
 pub stays-left : (c : Bucket) (e : Ends) (f : List Bucket) → isOpen e ≡ true → staysOpen c e f ≡ true → Left c e f
 unfolding staysOpen
 stays-left c e [] o s = record { p = _; q = _; between = open-has o; below = λ j m. absurd (List·Memᴰ·not-nil m) }
-stays-left c e (j ∷ f) o s = more (stays-left c (narrowed c j e) f (both .0) (both .1))
-  where
-    both : (isOpen (narrowed c j e) ≡ true) × (staysOpen c (narrowed c j e) f ≡ true)
-    both = and-eq-true-iff _ _ .0 s
-
-    more : Left c (narrowed c j e) f → Left c e (j ∷ f)
-    more l =
-        record {
-          p = l .p;
-          q = l .q;
-          between = sees c j e .stays (l .between);
-          below = below-cons (l .p) (l .q) (sees c j e .holds (l .between)) (l .below);
-        }
+stays-left c e (j ∷ f) o s =
+    let both = and-eq-true-iff _ _ .0 s in
+    let l = stays-left c (narrowed c j e) f (both .0) (both .1) in
+    record {
+      p = l .p;
+      q = l .q;
+      between = sees c j e .stays (l .between);
+      below = cons-each (sees c j e .holds (l .between)) (l .below);
+    }
 
 -- where a time is left, the search stays open
 pub left-stays :
@@ -291,17 +262,15 @@ left-stays c e (j ∷ f) {p} {q} t b =
 -- a bucket that the test takes is useful
 pub useful-sound : (f : List Bucket) (c : Bucket) → isUseful f c ≡ true → Useful f c
 unfolding isUseful everyTime isOpen
-useful-sound f c u = taken (stays-left c everyTime f refl u)
-  where
-    taken : Left c everyTime f → Useful f c
-    taken l =
-        record {
-          p = l .p;
-          q = l .q;
-          p-positive = time-positive (l .between);
-          q-positive = over-positive (l .between);
-          below = l .below;
-        }
+useful-sound f c u =
+    let l = stays-left c everyTime f refl u in
+    record {
+      p = l .p;
+      q = l .q;
+      p-positive = time-positive (l .between);
+      q-positive = over-positive (l .between);
+      below = l .below;
+    }
 
 -- a useful bucket is taken
 pub useful-taken : (f : List Bucket) (c : Bucket) → Useful f c → isUseful f c ≡ true
@@ -312,12 +281,14 @@ useful-taken f c u = left-stays c everyTime f {p = u .p} {q = u .q} (omega (arit
 pub useful-complete : (f : List Bucket) (c : Bucket) → isUseful f c ≡ false → Useful f c → ⊥
 useful-complete f c n u = true≢false (sym (useful-taken f c u) ∙ n)
 
+-- A step of the search:
 module _ (c : Bucket) (e : Ends) (j : Bucket) (f : List Bucket) where
-  -- a step of the search: where some time is left it goes on over the rest, and otherwise it ends
+  -- where some time is left it goes on over the rest,
   pub goes-on : isOpen (narrowed c j e) ≡ true → staysOpen c e (j ∷ f) ≡ staysOpen c (narrowed c j e) f
   unfolding staysOpen
   goes-on o = rw o
 
+  -- and otherwise it ends
   pub ends : isOpen (narrowed c j e) ≡ false → staysOpen c e (j ∷ f) ≡ false
   unfolding staysOpen
   ends o = rw o
