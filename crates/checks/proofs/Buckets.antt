@@ -9,6 +9,7 @@ use native.Mathlib.Numerals.{towards-suc, unary-clauses}
 use native.Mathlib.Omega.{arith}
 use lib.ListN.{length, getD, take, drop, length-drop}
 use lib.Seq.{drop-cons}
+use Rattle.meaning.proofs.Lists.{buckets-use}
 use Rattle.meaning.specs.Curve.{Bucket, _∈_, buckets, flat}
 
 -- the bucket that is read at an index
@@ -17,22 +18,9 @@ bucket-at l i = record { rate = getD l i 0; burst = getD l (i + 1) 0 }
 
 -- ---- How many there are.
 
--- each bucket takes two numbers, and a list of odd length has one more
-pub buckets-use : (l : List ℕ) → length l ≡ 2 * length (buckets l) + length l % 2
-unfolding buckets
-buckets-use [] = refl
-buckets-use (r ∷ []) = refl
-buckets-use (r ∷ b ∷ l) = omega (arith, buckets-use l)
-
 -- half as many buckets as numbers
 pub buckets-count : (l : List ℕ) → length (buckets l) ≡ length l / 2
 buckets-count l = omega (arith, buckets-use l)
-
--- two numbers for each bucket
-pub flat-length : (f : List Bucket) → length (flat f) ≡ 2 * length f
-unfolding flat
-flat-length [] = refl
-flat-length (k ∷ f) = omega (arith, flat-length f)
 
 -- ---- What is left from an index on.
 
@@ -102,12 +90,6 @@ bucket-number (r ∷ b ∷ l) zero k h = refl
 bucket-number (r ∷ b ∷ l) (suc n) k h = bucket-number l n k (omega arith) ∙ simp unary-clauses
 
 -- ---- There and back.
-
--- the buckets of a list's numbers are the list
-pub buckets-flat : (f : List Bucket) → buckets (flat f) ≡ f
-unfolding buckets flat
-buckets-flat [] = refl
-buckets-flat (k ∷ f) = ap (λ (g : List Bucket). k ∷ g) (buckets-flat f)
 
 -- the numbers of the buckets of an even list are the list
 pub flat-buckets : (l : List ℕ) → length l % 2 ≡ 0 → flat (buckets l) ≡ l

@@ -2,22 +2,21 @@
 -- Assumes nothing.
 use mathlib.Core.Path.{_≡_, refl, sym, _∙_, subst}
 use mathlib.Core.Logic.{_⊎_, inl, inr, ⊎-elim}
-use mathlib.Core.Bool.{Bool, true, false, not, false≢true}
-use mathlib.Core.List.{List, _∷_, List·Memᴰ·cases-cons}
-use Prim.Native.Nat.{ℕ, _+_, _%_, _^_, _≤_, _<_, min}
+use mathlib.Core.Bool.{Bool, true, false, not}
+use mathlib.Core.List.{List}
+use Prim.Native.Nat.{ℕ, _%_, _^_, _≤_, _<_, min}
 use native.Mathlib.Nat.{lt-of-not-le, min-eq-left, min-eq-right, le-of-lt}
 use native.Mathlib.Omega.{arith}
-use lib.ListN.{length, getD, drop}
+use lib.ListN.{length}
 use lib.Dec.{lit≤}
 use borrow.Author.Tests.{eq-eqb, ne-eqb, not-true, not-false}
-use Rattle.meaning.specs.Curve.{Bucket, _∈_, buckets, NormalForm}
-use Rattle.meaning.specs.Refusal.{LIST, COUNT, RANGE, FORM, number, Lines, _when_, _or_, Clear, Verdict, accepted, rejected, InRange, AllInRange, rawLines, curveLines}
+use Rattle.meaning.specs.Curve.{buckets, NormalForm}
+use Rattle.meaning.specs.Refusal.{LIST, COUNT, RANGE, FORM, number, Lines, _when_, _or_, Clear, Verdict, accepted, rejected, AllInRange, rawLines, curveLines}
 use Rattle.meaning.specs.Computed.{pick, earlier}
 use Rattle.meaning.proofs.Outcomes.{number-positive, from-when, up-to-when, up-to-or, line-hit, line-miss, refused-first, refused-then}
 use Rattle.checks.specs.Contracts.{Tells}
-use Rattle.checks.proofs.Buckets.{bucket-at, buckets-use, buckets-end, buckets-next, bucket-inside}
-use Rattle.checks.proofs.Ranges.{within-unless}
-use Rattle.checks.proofs.Forms.{in-form}
+use Rattle.meaning.proofs.Lists.{buckets-use}
+use Rattle.meaning.proofs.Stable.{range-stable, normal-stable}
 
 -- ---- The lines of a raw list, in the order of their numbers.
 
@@ -94,7 +93,7 @@ module _ {a b : Lines} (clear : Clear (a or b)) where
 module _ (l : List ℕ) (clear : Clear (rawLines l)) where
   -- every rate and burst is in its range
   pub raw-ranges : AllInRange (buckets l)
-  raw-ranges = within-unless (λ out. clear RANGE (inr (refl, out)))
+  raw-ranges = range-stable (λ out. clear RANGE (inr (refl, out)))
 
   -- the length is even
   pub raw-even : length l % 2 ≡ 0
@@ -112,7 +111,7 @@ module _ (l : List ℕ) (clear : Clear (rawLines l)) where
 
 -- a curve that is not refused is in normal form
 pub curve-form : (l : List ℕ) → Clear (curveLines l) → NormalForm (buckets l)
-curve-form l clear = in-form (buckets l) (λ out. clear FORM (inr (refl, out)))
+curve-form l clear = normal-stable (λ out. clear FORM (inr (refl, out)))
 
 -- ---- The lines of a curve: those of a raw list, then FORM.
 

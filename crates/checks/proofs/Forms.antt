@@ -19,14 +19,6 @@ use Rattle.meaning.proofs.Neighbours.{neighbours-sound, neighbours-refute}
 use Rattle.checks.specs.Contracts.{Tells}
 use Rattle.checks.proofs.Buckets.{bucket-at, buckets-none, buckets-end, buckets-next, bucket-inside}
 
--- a list that is not out of normal form is in it
-pub in-form : (f : List Bucket) → ((NormalForm f → ⊥) → ⊥) → NormalForm f
-in-form f none = by-test (isNormal f) refl
-  where
-    by-test : (answer : Bool) → isNormal f ≡ answer → NormalForm f
-    by-test true e = neighbours-sound f e
-    by-test false e = absurd (none (neighbours-refute f e))
-
 -- the neighbours' test tells normal form
 tells-normal : (f : List Bucket) (answer : Bool) → answer ≡ isNormal f → Tells (NormalForm f) answer
 tells-normal f answer e =

@@ -12,7 +12,8 @@ use mir.Val.{Fits}
 use Rattle.meaning.specs.Curve.{Bucket, _∈_, buckets, flat, added}
 use Rattle.meaning.specs.Refusal.{AllInRange, InRange, over}
 use Rattle.curves.specs.Contracts.{bucket}
-use Rattle.checks.proofs.Buckets.{bucket-at, buckets-next, buckets-end, buckets-use, flat-length}
+use Rattle.meaning.proofs.Lists.{flat-length}
+use Rattle.checks.proofs.Buckets.{bucket-at, buckets-next, buckets-end}
 use Rattle.curves.proofs.Copying.{Copied, copied-start, copied-step, copied-end}
 
 -- The numbers of a bucket added to each bucket of a curve.

@@ -2,32 +2,25 @@
 -- `settle` answers, over its raw buckets.
 -- Assumes nothing.
 use mathlib.Core.Path.{_≡_, refl, sym, _∙_, ap, subst}
-use mathlib.Core.Logic.{_⊎_, inl, inr, ⊎-elim}
-use mathlib.Core.List.{List, [], _∷_, _++_, List·Memᴰ·head, List·Memᴰ·append-cases, List·Memᴰ·eq-of-singleton}
-use Prim.Native.Nat.{ℕ, _+_, _*_, _%_, _^_, _≤_, _<_}
+use mathlib.Core.Logic.{inr, ⊎-elim}
+use mathlib.Core.List.{List, [], _∷_, _++_, List·Memᴰ·append-cases, List·Memᴰ·eq-of-singleton}
+use Prim.Native.Nat.{ℕ, _+_, _%_, _^_, _≤_, _<_}
 use native.Mathlib.Omega.{arith}
 use native.Mathlib.Nat.{lt-of-not-le, mul-le-mul}
 use lib.ListN.{length, take, drop, length-append}
 use lib.Seq.{take-at, length-take-le}
 use lib.Dec.{lit≤}
-use Rattle.meaning.specs.Curve.{Bucket, _∈_, buckets, flat, added, pairs, NormalOf}
-use Rattle.meaning.specs.Refusal.{Refusal, LIST, COUNT, RANGE, FORM, number, Lines, _when_, _or_, Clear, Verdict, AllInRange, InRange, rawLines, curveLines, Question, over, Outcome, PartOutcome}
+use Rattle.meaning.specs.Curve.{Bucket, buckets, flat, added, pairs, NormalOf}
+use Rattle.meaning.specs.Refusal.{RANGE, number, Lines, _or_, Clear, Verdict, AllInRange, rawLines, curveLines, Question, over, PartOutcome}
 use Rattle.meaning.specs.CurveQuestions.{linkLine, normalising, lowering, summing, shaping}
 use Rattle.meaning.specs.Computed.{earlier}
-use Rattle.meaning.proofs.Curves.{PairOf, pairs-from, pairs-length}
-use Rattle.meaning.proofs.Outcomes.{UpTo, up-to-when, up-to-or, clear-or, verdict-or, refuse-in-part, asked-so-in-part, whole-list}
-use Rattle.curves.specs.Contracts.{Wide, AllWide, settling}
-use Rattle.checks.proofs.Buckets.{buckets-use, buckets-append, buckets-flat, flat-length}
-use Rattle.checks.proofs.Checks.{passed, clear-first, clear-second, raw-ranges, raw-even, raw-some, raw-few, curve-form}
-
--- a curve's lines are those up to FORM
-raw-up-to : (l : List ℕ) → UpTo 8 (rawLines l)
-unfolding number
-raw-up-to l = up-to-or (up-to-or (up-to-when LIST (lit≤ tt)) (up-to-when COUNT (lit≤ tt))) (up-to-when RANGE (lit≤ tt))
-
-curve-up-to : (l : List ℕ) → UpTo 8 (curveLines l)
-unfolding number
-curve-up-to l = up-to-or (raw-up-to l) (up-to-when FORM (lit≤ tt))
+use Rattle.meaning.proofs.Curves.{pairs-from, pairs-length}
+use Rattle.meaning.proofs.Answers.{raw-up-to, curve-up-to}
+use Rattle.meaning.proofs.Outcomes.{up-to-when, up-to-or, clear-or, verdict-or, refuse-in-part, asked-so-in-part, whole-list}
+use Rattle.curves.specs.Contracts.{AllWide, settling}
+use Rattle.meaning.proofs.Lists.{buckets-use, buckets-flat}
+use Rattle.checks.proofs.Buckets.{buckets-append}
+use Rattle.checks.proofs.Checks.{passed, clear-first, clear-second, raw-ranges, raw-even, raw-some, raw-few}
 
 -- buckets in their range are within twice their range
 wide : {f : List Bucket} → AllInRange f → AllWide f

@@ -1,6 +1,5 @@
 -- The laws that the proofs of this crate's functions cite.
 pub mod Least
-pub mod ValueFacts
 pub mod Narrowing
 pub mod Steepest
 pub mod Picking

@@ -1,19 +1,20 @@
 -- All buckets (r + r', b + b'), one from each curve, written one row after the other.
 -- Assumes nothing.
 use mathlib.Core.Path.{_≡_, refl, sym, _∙_, ap, subst}
-use mathlib.Core.List.{List, [], _∷_, _++_, map, append-assoc, append-nil, List·Memᴰ·head, List·Memᴰ·tail}
+use mathlib.Core.List.{List, [], _++_, map, append-assoc, append-nil, List·Memᴰ·head, List·Memᴰ·tail}
 use Prim.Native.Nat.{ℕ, _+_, _-_, _*_, _%_, _≤_, _<_}
 use native.Mathlib.Nat.{mul-le-mul}
 use native.Mathlib.Omega.{arith}
-use lib.ListN.{length, getD, take, drop, length-append, length-drop, length-map}
+use lib.ListN.{length, getD, take, drop, length-append, length-drop}
 use lib.Seq.{take-at, drop-at, drop-drop}
 use mir.Syntax.{w64}
 use mir.Val.{Fits}
 use Rattle.meaning.specs.Curve.{Bucket, _∈_, buckets, flat, added, pairs}
-use Rattle.meaning.specs.Refusal.{AllInRange, InRange, over}
+use Rattle.meaning.specs.Refusal.{AllInRange, over}
 use Rattle.meaning.proofs.Curves.{pairs-length}
 use Rattle.curves.specs.Contracts.{bucket}
-use Rattle.checks.proofs.Buckets.{bucket-at, buckets-next, buckets-end, buckets-use, flat-length, flat-append}
+use Rattle.meaning.proofs.Lists.{buckets-use, flat-length}
+use Rattle.checks.proofs.Buckets.{bucket-at, buckets-next, buckets-end, flat-append}
 use Rattle.curves.proofs.Copying.{tail-is, tail-over}
 use Rattle.curves.proofs.Adding.{row, row-length}
 

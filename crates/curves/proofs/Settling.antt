@@ -5,14 +5,14 @@ use mathlib.Core.Path.{_≡_, refl, sym, _∙_, ap}
 use mathlib.Core.Bool.{Bool, true, false, not}
 use mathlib.Core.Logic.{inl, inr}
 use mathlib.Core.List.{List, _++_, append-assoc}
-use Prim.Native.Nat.{ℕ, _+_, _*_, _≤_, _<_}
+use Prim.Native.Nat.{ℕ, _*_, _≤_, _<_}
 use native.Mathlib.Omega.{arith}
 use borrow.Author.Tests.{not-true, not-false}
 use lib.Dec.{lit≤}
 use lib.ListN.{length, take, drop, take-append-drop}
-use Rattle.meaning.specs.Curve.{Bucket, buckets, flat}
+use Rattle.meaning.specs.Curve.{buckets, flat}
 use Rattle.meaning.specs.Computed.{normal}
-use Rattle.meaning.specs.Refusal.{LIST, RANGE, number, _when_, Clear, Verdict, AllInRange, AllWithin, TooLarge, over, Question, Outcome, part, PartOutcome}
+use Rattle.meaning.specs.Refusal.{LIST, RANGE, number, _when_, Clear, Verdict, AllWithin, TooLarge, over, Question, Outcome, part, PartOutcome}
 use Rattle.meaning.proofs.Unique.{normal-of-unique}
 use Rattle.meaning.proofs.Normal.{normal-is}
 use Rattle.meaning.proofs.Outcomes.{Single, Same, one-part-outcome, from-when, up-to-when, up-to-or, line-hit, line-miss, clear-or, refused-first, refused-then, refuse, too-large, no-room, written-out}
@@ -21,7 +21,7 @@ use Rattle.curves.specs.Contracts.{AllWide, settling, Chose, Placed}
 use Rattle.checks.proofs.Checks.{passed}
 use Rattle.checks.proofs.Ranges.{within-unless}
 use Rattle.curves.proofs.Placing.{part-after, outside-after}
-use Rattle.checks.proofs.Buckets.{buckets-use, buckets-flat, flat-length}
+use Rattle.meaning.proofs.Lists.{buckets-use, buckets-flat, flat-length}
 
 -- ---- The table.
 

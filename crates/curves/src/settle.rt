@@ -7,7 +7,7 @@ ghost use Prim.Native.Nat.{_-_, _≤_};
 ghost use lib.ListN.{length};
 ghost use Rattle.meaning.specs.Curve.{buckets};
 ghost use Rattle.meaning.specs.Computed.{afterSteeper, beforeFlatter, besideEqual, narrowed, isOpen};
-ghost use Rattle.meaning.specs.Refusal.{Verdict, PartOutcome, over};
+ghost use Rattle.meaning.specs.Refusal.{Verdict, PartOutcome};
 ghost use Rattle.curves.specs.Contracts.{AllWide, settling, bucketOf, endsOf, EndsFit, SearchFits, Keeps, Best, Chose, Placed};
 
 // A code, 0 for an answer, and the number of buckets, 0 for a refusal.

@@ -5,7 +5,7 @@ use mathlib.Core.Bool.{Bool, true, false, _&&_}
 use mathlib.Core.List.{List, [], _∷_, _++_}
 use Prim.Native.Nat.{ℕ, _+_, _-_, _*_, _/_, min, max}
 use lib.Dec.{leb, ltb, eqb}
-use Rattle.meaning.specs.Curve.{Bucket, bucketAt, valueAt, tickValue}
+use Rattle.meaning.specs.Curve.{Bucket, valueAt, tickValue}
 use Rattle.meaning.specs.Server.{Server, reads, slower, last}
 
 -- One of two, by a test.

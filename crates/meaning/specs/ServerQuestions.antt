@@ -1,10 +1,9 @@
 -- The operations over servers, each as a question over the lent numbers.
 -- Assumes nothing.
 use mathlib.Core.Path.{_≡_}
-use mathlib.Core.Logic.{_⊎_}
 use mathlib.Core.List.{List, []}
 use Prim.Native.Nat.{ℕ, _^_, _≤_, _<_}
-use Rattle.meaning.specs.Curve.{Bucket, buckets}
+use Rattle.meaning.specs.Curve.{buckets}
 use Rattle.meaning.specs.Refusal.{RANGE, UNBOUNDED, LARGE, Lines, _when_, _or_, Clear, Refused, curveLines, Question, FigureOutcome}
 use Rattle.meaning.specs.Server.{Server, join, Behind, Backlog, Delay, Residual, last}
 

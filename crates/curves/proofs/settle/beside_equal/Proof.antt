@@ -1,8 +1,7 @@
 -- `settle::beside_equal` gives the ends that a bucket of the same rate leaves.
 -- Assumes nothing.
-use native.Mathlib.Omega.{arith}
 use borrow.Author.Needs.{needs}
-use Rattle.curves.proofs.Narrowing.{product-fits, narrowing}
+use Rattle.curves.proofs.Narrowing.{narrowing}
 use Rattle.curves.proofs.settle.beside_equal.Statement.{statement}
 use Rattle.curves.proofs.settle.beside_equal.Tie as tie
 

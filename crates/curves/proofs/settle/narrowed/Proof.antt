@@ -1,8 +1,7 @@
 -- `settle::narrowed` gives the ends that a bucket more leaves: one case for a steeper, a flatter and an equal one.
 -- Assumes nothing.
-use native.Mathlib.Omega.{arith}
 use borrow.Author.Needs.{needs}
-use Rattle.curves.proofs.Narrowing.{product-fits, narrowing}
+use Rattle.curves.proofs.Narrowing.{narrowing}
 use Rattle.curves.proofs.settle.narrowed.Statement.{statement}
 use Rattle.curves.proofs.settle.narrowed.Tie as tie
 
