@@ -52,20 +52,21 @@ fn spread() -> [u64; 130]
     list
 }
 
-fn main() {
-    let mut out = [0u64; 130];
+// Normalises a raw list, and shows what is answered.
+fn show_normalised(words: &[u8], raw: &[u64]) {
+    let mut out = [0u64; 128];
+    let answer = normalise(raw, &mut out);
+    show(words, answer, &out);
+}
 
+fn main() {
+    let mut out = [0u64; 4];
     let shaped = shape(&[3, 20], 10, &mut out);
     show(b"shape {(3,20)} by 10:", shaped, &out);
 
     let raw = spread();
-    let full = normalise(&raw[..128], &mut out);
-    show(b"normalise 64 raw buckets:", full, &out);
-    let over = normalise(&raw, &mut out);
-    show(b"normalise 65 raw buckets:", over, &out);
-
-    let taken = normalise(&[0, 1_099_511_627_775], &mut out);
-    show(b"normalise burst 2^40-1:", taken, &out);
-    let refused = normalise(&[0, 1_099_511_627_776], &mut out);
-    show(b"normalise burst 2^40:", refused, &out);
+    show_normalised(b"normalise 64 raw buckets:", &raw[..128]);
+    show_normalised(b"normalise 65 raw buckets:", &raw);
+    show_normalised(b"normalise burst 2^40-1:", &[0, 1_099_511_627_775]);
+    show_normalised(b"normalise burst 2^40:", &[0, 1_099_511_627_776]);
 }

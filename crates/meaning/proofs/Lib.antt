@@ -17,6 +17,7 @@ pub mod HopByHop
 pub mod Excess
 pub mod Behind
 pub mod Delay
+pub mod Sizes
 pub mod Joining
 pub mod Demands
 pub mod EveryInput

@@ -27,80 +27,45 @@ show-requires c κs = search needs
 spread-requires : tie.Need-spread-requires
 spread-requires c κs = search needs
 
+slice-aggregate-show-normalised : tie.Need-slice-aggregate-show-normalised
+slice-aggregate-show-normalised c = search needs
+
 array-share-prefix-raw : tie.Need-array-share-prefix-raw
 array-share-prefix-raw c = search needs
 
-slice-aggregate-normalise : tie.Need-slice-aggregate-normalise
-slice-aggregate-normalise c = sym (length-take-le 128 (c .before .spread .result) (omega (arith, c .before .spread .ensures)))
+slice-aggregate-show-normalised-2 : tie.Need-slice-aggregate-show-normalised-2
+slice-aggregate-show-normalised-2 c =
+    sym (length-take-le 128 (c .before .before .spread .result) (omega (arith, c .before .before .spread .ensures)))
 
-slice-aggregate-normalise-2 : tie.Need-slice-aggregate-normalise-2
-slice-aggregate-normalise-2 c = search needs
+show-normalised-requires : tie.Need-show-normalised-requires
+show-normalised-requires c κs = search needs
 
-normalise-requires : tie.Need-normalise-requires
-normalise-requires c κs = search needs
+slice-aggregate-show-normalised-3 : tie.Need-slice-aggregate-show-normalised-3
+slice-aggregate-show-normalised-3 c = search needs
 
-slice-aggregate-show-3 : tie.Need-slice-aggregate-show-3
-slice-aggregate-show-3 c = search needs
+slice-aggregate-show-normalised-4 : tie.Need-slice-aggregate-show-normalised-4
+slice-aggregate-show-normalised-4 c = search needs
 
-slice-aggregate-show-4 : tie.Need-slice-aggregate-show-4
-slice-aggregate-show-4 c = search needs
+show-normalised-requires-2 : tie.Need-show-normalised-requires-2
+show-normalised-requires-2 c κs = search needs
 
-show-requires-2 : tie.Need-show-requires-2
-show-requires-2 c κs = search needs
+slice-aggregate-show-normalised-5 : tie.Need-slice-aggregate-show-normalised-5
+slice-aggregate-show-normalised-5 c = search needs
 
-slice-aggregate-normalise-3 : tie.Need-slice-aggregate-normalise-3
-slice-aggregate-normalise-3 c = search needs
+slice-aggregate-show-normalised-6 : tie.Need-slice-aggregate-show-normalised-6
+slice-aggregate-show-normalised-6 c = search needs
 
-slice-aggregate-normalise-4 : tie.Need-slice-aggregate-normalise-4
-slice-aggregate-normalise-4 c = search needs
+show-normalised-requires-3 : tie.Need-show-normalised-requires-3
+show-normalised-requires-3 c κs = search needs
 
-normalise-requires-2 : tie.Need-normalise-requires-2
-normalise-requires-2 c κs = search needs
+slice-aggregate-show-normalised-7 : tie.Need-slice-aggregate-show-normalised-7
+slice-aggregate-show-normalised-7 c = search needs
 
-slice-aggregate-show-5 : tie.Need-slice-aggregate-show-5
-slice-aggregate-show-5 c = search needs
+slice-aggregate-show-normalised-8 : tie.Need-slice-aggregate-show-normalised-8
+slice-aggregate-show-normalised-8 c = search needs
 
-slice-aggregate-show-6 : tie.Need-slice-aggregate-show-6
-slice-aggregate-show-6 c = search needs
-
-show-requires-3 : tie.Need-show-requires-3
-show-requires-3 c κs = search needs
-
-slice-aggregate-normalise-5 : tie.Need-slice-aggregate-normalise-5
-slice-aggregate-normalise-5 c = search needs
-
-slice-aggregate-normalise-6 : tie.Need-slice-aggregate-normalise-6
-slice-aggregate-normalise-6 c = search needs
-
-normalise-requires-3 : tie.Need-normalise-requires-3
-normalise-requires-3 c κs = search needs
-
-slice-aggregate-show-7 : tie.Need-slice-aggregate-show-7
-slice-aggregate-show-7 c = search needs
-
-slice-aggregate-show-8 : tie.Need-slice-aggregate-show-8
-slice-aggregate-show-8 c = search needs
-
-show-requires-4 : tie.Need-show-requires-4
-show-requires-4 c κs = search needs
-
-slice-aggregate-normalise-7 : tie.Need-slice-aggregate-normalise-7
-slice-aggregate-normalise-7 c = search needs
-
-slice-aggregate-normalise-8 : tie.Need-slice-aggregate-normalise-8
-slice-aggregate-normalise-8 c = search needs
-
-normalise-requires-4 : tie.Need-normalise-requires-4
-normalise-requires-4 c κs = search needs
-
-slice-aggregate-show-9 : tie.Need-slice-aggregate-show-9
-slice-aggregate-show-9 c = search needs
-
-slice-aggregate-show-10 : tie.Need-slice-aggregate-show-10
-slice-aggregate-show-10 c = search needs
-
-show-requires-5 : tie.Need-show-requires-5
-show-requires-5 c κs = search needs
+show-normalised-requires-4 : tie.Need-show-normalised-requires-4
+show-normalised-requires-4 c κs = search needs
 
 returns : tie.Need-returns
 returns c = search needs
@@ -116,29 +81,17 @@ main-spec =
     slice-aggregate-show-2
     show-requires
     spread-requires
+    slice-aggregate-show-normalised
     array-share-prefix-raw
-    slice-aggregate-normalise
-    slice-aggregate-normalise-2
-    normalise-requires
-    slice-aggregate-show-3
-    slice-aggregate-show-4
-    show-requires-2
-    slice-aggregate-normalise-3
-    slice-aggregate-normalise-4
-    normalise-requires-2
-    slice-aggregate-show-5
-    slice-aggregate-show-6
-    show-requires-3
-    slice-aggregate-normalise-5
-    slice-aggregate-normalise-6
-    normalise-requires-3
-    slice-aggregate-show-7
-    slice-aggregate-show-8
-    show-requires-4
-    slice-aggregate-normalise-7
-    slice-aggregate-normalise-8
-    normalise-requires-4
-    slice-aggregate-show-9
-    slice-aggregate-show-10
-    show-requires-5
+    slice-aggregate-show-normalised-2
+    show-normalised-requires
+    slice-aggregate-show-normalised-3
+    slice-aggregate-show-normalised-4
+    show-normalised-requires-2
+    slice-aggregate-show-normalised-5
+    slice-aggregate-show-normalised-6
+    show-normalised-requires-3
+    slice-aggregate-show-normalised-7
+    slice-aggregate-show-normalised-8
+    show-normalised-requires-4
     returns)
