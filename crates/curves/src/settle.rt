@@ -196,6 +196,7 @@ fn choose(raw: &[u64], out: &mut [u64]) -> usize
                 burst: raw[j + 1],
             };
             ends = narrowed(c, other, ends);
+            // No time is left: one bucket, or a steeper and a flatter one together, cover the candidate.
             if !is_open(ends) {
                 continue 'next;
             }

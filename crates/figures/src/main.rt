@@ -1,6 +1,7 @@
 // Runs the figures of the scope that are not proved of the definitions, and prints a line for each: what is asked, the code,
-// the count of buckets, and the answered buckets. The file stdout beside src/ has what the scope says.
+// the count of buckets, and the answered buckets; and P1 into a part of a table, with the whole table. The file stdout beside src/ has what the scope says.
 use curves::operations::normalise;
+use curves::operations::normalise_in;
 use curves::operations::shape;
 use curves::settle::Answer;
 use libc::STDOUT_FILENO;
@@ -23,7 +24,7 @@ fn show_number(n: u64) {
 
 // Short answers are shown in full; of a long one the count says enough.
 fn show_buckets(count: u64, list: &[u64]) {
-    if 4 < count {
+    if 5 < count {
         return;
     }
     let mut left = 2 * count;
@@ -36,6 +37,17 @@ fn show_buckets(count: u64, list: &[u64]) {
         left -= 1;
         i += 1;
     }
+}
+
+// Normalises the five raw buckets of P1 into a part of a table, the numbers from 3 on, and shows the whole table.
+fn show_in_part(words: &[u8], room: usize) {
+    let mut table = [9u64; 10];
+    let answer = normalise_in(&[3, 20, 10, 2, 10, 2, 5, 15, 3, 25], &mut table, 3, room);
+    io::write_all(STDOUT_FILENO, words);
+    show_number(answer.code);
+    show_number(answer.count);
+    show_buckets(5, &table);
+    io::write_all(STDOUT_FILENO, b"\n");
 }
 
 // Buckets (200 - i, i * i): rates fall and crossings rise, so each is useful.
@@ -69,4 +81,7 @@ fn main() {
     show_normalised(b"normalise 65 raw buckets:", &raw);
     show_normalised(b"normalise burst 2^40-1:", &[0, 1_099_511_627_775]);
     show_normalised(b"normalise burst 2^40:", &[0, 1_099_511_627_776]);
+
+    show_in_part(b"normalise P1 into a part of 4 numbers:", 4);
+    show_in_part(b"normalise P1 into a part of 3 numbers:", 3);
 }

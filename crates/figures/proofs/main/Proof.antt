@@ -67,6 +67,18 @@ slice-aggregate-show-normalised-8 c = search needs
 show-normalised-requires-4 : tie.Need-show-normalised-requires-4
 show-normalised-requires-4 c κs = search needs
 
+slice-aggregate-show-in-part : tie.Need-slice-aggregate-show-in-part
+slice-aggregate-show-in-part c = search needs
+
+show-in-part-requires : tie.Need-show-in-part-requires
+show-in-part-requires c κs = search needs
+
+slice-aggregate-show-in-part-2 : tie.Need-slice-aggregate-show-in-part-2
+slice-aggregate-show-in-part-2 c = search needs
+
+show-in-part-requires-2 : tie.Need-show-in-part-requires-2
+show-in-part-requires-2 c κs = search needs
+
 returns : tie.Need-returns
 returns c = search needs
 
@@ -94,4 +106,8 @@ main-spec =
     slice-aggregate-show-normalised-7
     slice-aggregate-show-normalised-8
     show-normalised-requires-4
+    slice-aggregate-show-in-part
+    show-in-part-requires
+    slice-aggregate-show-in-part-2
+    show-in-part-requires-2
     returns)
