@@ -12,7 +12,8 @@ use lib.Dec.{lit≤}
 use borrow.Author.Tests.{eq-eqb, ne-eqb, not-true, not-false}
 use Rattle.meaning.specs.Curve.{buckets, NormalForm}
 use Rattle.meaning.specs.Refusal.{LIST, COUNT, RANGE, FORM, number, Lines, _when_, _or_, Clear, Verdict, accepted, rejected, AllInRange, rawLines, curveLines}
-use Rattle.meaning.specs.Computed.{pick, earlier}
+use Rattle.meaning.specs.Computed.{earlier}
+use Rattle.meaning.specs.Server.{pick}
 use Rattle.meaning.proofs.Outcomes.{number-positive, from-when, up-to-when, up-to-or, line-hit, line-miss, refused-first, refused-then}
 use Rattle.checks.specs.Contracts.{Tells}
 use Rattle.meaning.proofs.Lists.{buckets-use}

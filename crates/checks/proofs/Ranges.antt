@@ -3,7 +3,7 @@
 -- Assumes nothing.
 use mathlib.Core.Path.{_≡_, refl, sym, subst}
 use mathlib.Core.Logic.{_⊎_, inl, inr}
-use mathlib.Core.Bool.{true, false, true≢false}
+use mathlib.Core.Bool.{Bool, true, false, true≢false}
 use mathlib.Core.List.{List, _∷_, List·Memᴰ·head, List·Memᴰ·tail, List·Memᴰ·cases-cons, List·Memᴰ·not-nil}
 use Prim.Native.Nat.{ℕ, _+_, _≤_, _<_}
 use native.Mathlib.Nat.{lt-of-not-le}
@@ -20,6 +20,13 @@ tells-yes x = record { yes-means = λ e. x; no-means = λ e p. absurd (true≢fa
 
 pub tells-no : {P : Type 0} → (P → ⊥) → Tells P false
 tells-no never = record { yes-means = λ e. absurd (true≢false (sym e)); no-means = λ e. never }
+
+-- no other answer tells the same: a yes and a no exclude each other
+pub one-answer : {P : Type 0} {answer answer′ : Bool} → Tells P answer → Tells P answer′ → answer ≡ answer′
+one-answer {answer = true} {answer′ = true} t u = refl
+one-answer {answer = true} {answer′ = false} t u = absurd (u .no-means refl (t .yes-means refl))
+one-answer {answer = false} {answer′ = true} t u = absurd (t .no-means refl (u .yes-means refl))
+one-answer {answer = false} {answer′ = false} t u = refl
 
 -- buckets that are not out of their ranges are in them
 pub within-unless :

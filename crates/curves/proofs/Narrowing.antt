@@ -11,7 +11,8 @@ use mir.Val.{Fits}
 use lib.Dec.{lit<, ltb}
 use borrow.Author.Tests.{lt-ltb, le-ltb}
 use Rattle.meaning.specs.Curve.{Bucket}
-use Rattle.meaning.specs.Computed.{pick, Ends, afterSteeper, beforeFlatter, besideEqual, narrowed}
+use Rattle.meaning.specs.Computed.{Ends, afterSteeper, beforeFlatter, besideEqual, narrowed}
+use Rattle.meaning.specs.Server.{pick}
 use Rattle.curves.specs.Contracts.{EndsFit, SearchFits}
 
 -- a cross product fits

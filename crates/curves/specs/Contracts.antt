@@ -17,6 +17,7 @@ use Rattle.curves.specs.declared.settle.Found.{Found}
 abbrev pub Wide : Bucket → Type 0
 Wide = Within (2 ^ 21) (2 ^ 41)
 
+-- Every bucket of a list is.
 abbrev pub AllWide : List Bucket → Type 0
 AllWide = AllWithin (2 ^ 21) (2 ^ 41)
 
@@ -30,10 +31,11 @@ settling raw =
 
 -- ---- What the steps of settling say.
 
--- The bucket that code holds, and the ends that it holds.
+-- The bucket that code holds.
 abbrev pub bucketOf : held-bucket.Bucket → Bucket
 bucketOf k = record { rate = k .rate; burst = k .burst }
 
+-- The ends that code holds.
 abbrev pub endsOf : held-ends.Ends → Ends
 endsOf e = record { low = e .low; lowOver = e .«low_over»; high = e .high; highOver = e .«high_over» }
 

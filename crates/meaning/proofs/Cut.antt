@@ -13,7 +13,7 @@ use lib.ListN.{length}
 use lib.Dec.{leb}
 use borrow.Author.Tests.{leb-true, le-leb}
 use Rattle.meaning.specs.Curve.{Bucket, _∈_, bucketAt, valueAt}
-use Rattle.meaning.specs.Server.{Server, later, addedIf, slower, reads, Behind}
+use Rattle.meaning.specs.Server.{Server, later, pick, slower, reads, Behind}
 use Rattle.meaning.proofs.Order.{le-or-lt, crosswise}
 use Rattle.meaning.proofs.Value.{some, same-bucket-at, value-least, value-reached, below-value, value-unique}
 
@@ -30,12 +30,12 @@ same-rate-below e h = rw (← e) h
 
 -- `slower` holds each bucket that is slow enough, seen a latency later
 pub slower-has : (s : Server) {f : List Bucket} {k : Bucket} → k ∈ f → k .rate ≤ s .rate → later (s .latency) k ∈ slower s f
-unfolding slower addedIf
+unfolding slower pick
 slower-has s (List·Memᴰ·head {x = j} e) h =
     rw (le-leb (j .rate) (s .rate) (same-rate-below e h)) (List·Memᴰ·head (ap (later (s .latency)) e))
 slower-has s {k = k} (List·Memᴰ·tail {x = j} {xs = f} m) h = wanted-or-not (leb (j .rate) (s .rate)) (slower-has s m h)
   where
-    wanted-or-not : (b : Bool) → later (s .latency) k ∈ slower s f → later (s .latency) k ∈ addedIf b (later (s .latency) j) (slower s f)
+    wanted-or-not : (b : Bool) → later (s .latency) k ∈ slower s f → later (s .latency) k ∈ pick b (later (s .latency) j ∷ slower s f) (slower s f)
     wanted-or-not true n = List·Memᴰ·tail n
     wanted-or-not false n = n
 
@@ -48,7 +48,7 @@ pub record Slowed (s : Server) (f : List Bucket) (k : Bucket) : Type 0 where
 
 -- and nothing else
 pub slower-from : (s : Server) (f : List Bucket) {k : Bucket} → k ∈ slower s f → Slowed s f k
-unfolding slower addedIf
+unfolding slower pick
 slower-from s [] m = elim m [ ]
 slower-from s (j ∷ f) {k} m = wanted-or-not (leb (j .rate) (s .rate)) refl (λ n. further (slower-from s f n)) m
   where
@@ -57,7 +57,7 @@ slower-from s (j ∷ f) {k} m = wanted-or-not (leb (j .rate) (s .rate)) refl (λ
 
     wanted-or-not :
         (b : Bool) → leb (j .rate) (s .rate) ≡ b → (k ∈ slower s f → Slowed s (j ∷ f) k)
-        → k ∈ addedIf b (later (s .latency) j) (slower s f) → Slowed s (j ∷ f) k
+        → k ∈ pick b (later (s .latency) j ∷ slower s f) (slower s f) → Slowed s (j ∷ f) k
     wanted-or-not true t rest n =
         elim (List·Memᴰ·cases-cons n) [
           | inl e ↦ record { bucket = j; inside = List·Memᴰ·head refl; slow = leb-true _ _ t; is-later = e }

@@ -12,7 +12,8 @@ use lib.ListN.{length}
 use borrow.Author.Tests.{eq-eqb, ne-eqb}
 use Rattle.meaning.specs.Curve.{Bucket, bucketAt, tickValue, NormalForm}
 use Rattle.meaning.specs.Server.{Server, served, reads, Smallest, Excess, Delay, last}
-use Rattle.meaning.specs.Computed.{pick, delay}
+use Rattle.meaning.specs.Computed.{delay}
+use Rattle.meaning.specs.Server.{pick}
 use Rattle.meaning.proofs.Value.{value-least, value-reached}
 use Rattle.meaning.proofs.Joining.{served-past, rounded-up-is}
 use Rattle.meaning.proofs.Excess.{excess-is}

@@ -13,7 +13,8 @@ use lib.Seq.{append-snoc, take-at, getD-at}
 use borrow.Author.Tests.{le-leb, lt-leb}
 use Rattle.meaning.specs.Curve.{Bucket, _∈_, bucketAt, Falling, Useful, NormalForm, Crossing}
 use Rattle.meaning.specs.Server.{reads, GreatestGap, Excess, last}
-use Rattle.meaning.specs.Computed.{pick, excessAt, excessFrom, excess}
+use Rattle.meaning.specs.Computed.{excessAt, excessFrom, excess}
+use Rattle.meaning.specs.Server.{pick}
 use Rattle.meaning.proofs.Order.{le-or-lt, not-above, crosswise}
 use Rattle.meaning.proofs.Lists.{cons-each, append-each}
 use Rattle.meaning.proofs.Value.{same-rate, same-bucket-at, value-least, value-unique, Reached, value-reached}

@@ -15,7 +15,8 @@ use lib.Dec.{eqb, lit≤}
 use borrow.Author.Tests.{eqb-true, eqb-false}
 use Rattle.meaning.specs.Curve.{Bucket, flat}
 use Rattle.meaning.specs.Refusal.{Refusal, HEADER, LENGTH, PAD, LIST, COUNT, RANGE, FORM, UNBOUNDED, LARGE, ROOM, number, Lines, _when_, _or_, Wins, Clear, Verdict, accepted, rejected, TooLarge, answerLines, over, Refused, Answered, Question, allLines, Outcome, part, PartOutcome, FigureOutcome}
-use Rattle.meaning.specs.Computed.{pick, earlier}
+use Rattle.meaning.specs.Computed.{earlier}
+use Rattle.meaning.specs.Server.{pick}
 use Rattle.meaning.proofs.Order.{le-or-lt}
 
 -- every refusal has a number
@@ -35,6 +36,13 @@ number-positive ROOM = lit≤ tt
 -- the number that wins is one
 pub wins-once : {lines : Lines} {r s : Refusal} → Wins lines r → Wins lines s → number r ≡ number s
 wins-once {r = r} {s = s} v w = le-antisymm (v .smallest s (w .holds)) (w .smallest r (v .holds))
+
+-- No other code is a test's: the verdict on some lines is one.
+pub one-verdict : {lines : Lines} {code code′ : ℕ} → Verdict lines code → Verdict lines code′ → code ≡ code′
+one-verdict (accepted v e) (accepted w e′) = e ∙ sym e′
+one-verdict (accepted v e) (rejected r w e′) = absurd (v r (w .holds))
+one-verdict (rejected r v e) (accepted w e′) = absurd (w r (v .holds))
+one-verdict (rejected r v e) (rejected r′ w e′) = e ∙ wins-once v w ∙ sym e′
 
 -- What the caller gets to see of an outcome is the same.
 pub record Same (code figure code′ figure′ : ℕ) (after after′ : List ℕ) : Type 0 where

@@ -12,7 +12,8 @@ use native.Mathlib.Omega.{arith}
 use lib.Dec.{ltb}
 use borrow.Author.Tests.{ltb-true, ltb-false, lt-ltb}
 use Rattle.meaning.specs.Curve.{Bucket, _∈_, bucketAt, Useful}
-use Rattle.meaning.specs.Computed.{pick, Ends, everyTime, afterSteeper, beforeFlatter, besideEqual, narrowed, isOpen, staysOpen, isUseful}
+use Rattle.meaning.specs.Computed.{Ends, everyTime, afterSteeper, beforeFlatter, besideEqual, narrowed, isOpen, staysOpen, isUseful}
+use Rattle.meaning.specs.Server.{pick}
 use Rattle.meaning.proofs.Order.{le-or-lt}
 use Rattle.meaning.proofs.Lists.{cons-each}
 use Rattle.meaning.proofs.Lowest.{same-bucket, other-rate}

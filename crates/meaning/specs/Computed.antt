@@ -6,12 +6,7 @@ use mathlib.Core.List.{List, [], _∷_, _++_}
 use Prim.Native.Nat.{ℕ, _+_, _-_, _*_, _/_, min, max}
 use lib.Dec.{leb, ltb, eqb}
 use Rattle.meaning.specs.Curve.{Bucket, valueAt, tickValue}
-use Rattle.meaning.specs.Server.{Server, reads, slower, last}
-
--- One of two, by a test.
-unfoldable pub pick {ℓ} : {X : Type ℓ} → Bool → X → X → X
-pick true x y = x
-pick false x y = y
+use Rattle.meaning.specs.Server.{Server, pick, reads, slower, last}
 
 -- The smaller of two codes, where 0 is none.
 unfoldable pub earlier : ℕ → ℕ → ℕ
@@ -112,6 +107,7 @@ unfoldable pub excessAt : List Bucket → ℕ → ℕ → ℕ
 unfolding reads valueAt
 excessAt f rate s = max (reads f s - rate * s) (reads f (s + 1) - rate * (s + 1))
 
+-- (from a bucket on, the bucket before it given)
 unfoldable pub excessFrom : List Bucket → ℕ → Bucket → List Bucket → ℕ
 unfolding pick excessAt
 excessFrom f rate before [] = 0
@@ -119,11 +115,13 @@ excessFrom f rate before (k ∷ g) =
     pick (leb (k .rate) rate) (excessAt f rate ((k .burst - before .burst) / (before .rate - k .rate)))
     (excessFrom f rate k g)
 
+-- (for a whole curve: where its first rate is at most R, it is reached at tick 0)
 unfoldable pub excess : List Bucket → ℕ → ℕ
 unfolding pick excessFrom
 excess [] rate = 0
 excess (k ∷ f) rate = pick (leb (k .rate) rate) (k .burst) (excessFrom (k ∷ f) rate k f)
 
+-- The curve behind a server.
 unfoldable pub behind : List Bucket → Server → List Bucket
 unfolding normal excess slower
 behind f s = normal (slower s f ++ record { rate = s .rate; burst = s .rate * s .latency + excess f (s .rate) } ∷ [])
@@ -142,6 +140,7 @@ unfoldable pub delay : List Bucket → Server → ℕ
 unfolding pick excess roundedUp valueAt
 delay f s = pick (eqb (tickValue f 1) 0) 0 (s .latency + roundedUp (excess f (s .rate)) (s .rate))
 
+-- The server left beside a cross curve.
 unfoldable pub residual : List Bucket → Server → Server
 unfolding roundedUp last
 residual cross s =

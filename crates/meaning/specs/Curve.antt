@@ -82,10 +82,11 @@ Crossing f k p q = bucketAt (numbered (k - 1)) p q ≡ bucketAt (numbered k) p q
 abbrev pub Lower : List Bucket → List Bucket → List Bucket → Type 0
 Lower f g = NormalOf (f ++ g)
 
--- all buckets (r+r', b+b'), one from each curve
+-- Two buckets added: (r+r', b+b').
 unfoldable pub added : Bucket → Bucket → Bucket
 added k j = record { rate = k .rate + j .rate; burst = k .burst + j .burst }
 
+-- All buckets (r+r', b+b'), one from each curve.
 unfoldable pub pairs : List Bucket → List Bucket → List Bucket
 unfolding added
 pairs [] g = []

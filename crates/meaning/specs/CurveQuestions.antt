@@ -11,9 +11,11 @@ use Rattle.meaning.specs.Refusal.{RANGE, Lines, _when_, _or_, rawLines, 
 unfoldable pub normalising : List ℕ → Question
 normalising raw = record { operands = rawLines raw; Answer = NormalOf (buckets raw) }
 
+-- lower takes two curves.
 unfoldable pub lowering : List ℕ → List ℕ → Question
 lowering f g = record { operands = curveLines f or curveLines g; Answer = Lower (buckets f) (buckets g) }
 
+-- sum takes two curves.
 unfoldable pub summing : List ℕ → List ℕ → Question
 summing f g = record { operands = curveLines f or curveLines g; Answer = Sum (buckets f) (buckets g) }
 
@@ -21,6 +23,7 @@ summing f g = record { operands = curveLines f or curveLines g; Answer = Sum (bu
 abbrev pub linkLine : ℕ → Lines
 linkLine d = RANGE when ((d ≡ 0) ⊎ (2 ^ 20 ≤ d))
 
+-- shape takes a curve and the link's rate.
 unfoldable pub shaping : List ℕ → ℕ → Question
 shaping f d = record { operands = curveLines f or linkLine d; Answer = Shape (buckets f) d }
 

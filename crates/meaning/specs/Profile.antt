@@ -42,13 +42,15 @@ unfoldable pub bytesOf : ℕ → List ℕ → List ℕ
 bytesOf zero l = []
 bytesOf (suc n) l = spelt (take 8 l) ∷ bytesOf n (drop 8 l)
 
--- Edition (1). Kind 1, curve. Kind 2, server.
+-- Edition (1).
 abbrev pub edition : ℕ
 edition = 1
 
+-- Kind 1, curve.
 abbrev pub curveKind : ℕ
 curveKind = 1
 
+-- Kind 2, server.
 abbrev pub serverKind : ℕ
 serverKind = 2
 
@@ -57,6 +59,7 @@ pub data Profile : Type 0 where
   curve : List Bucket → Profile
   server : Server → Profile
 
+-- A profile's kind.
 abbrev pub kindOf : Profile → ℕ
 kindOf (curve f) = curveKind
 kindOf (server s) = serverKind
@@ -119,16 +122,17 @@ fileLines file =
     or PAD when List·Memᴰ 1 (padding file)
     or profileLines (profileOf file)
 
--- The reader answers the bucket count (0 for a server) or the two server numbers (0 for a curve).
+-- The buckets of a profile: none for a server.
 abbrev pub bucketsOf : Profile → List Bucket
 bucketsOf (curve f) = f
 bucketsOf (server s) = []
 
+-- The two server numbers of a profile: 0 for a curve.
 abbrev pub numbersOf : Profile → Server
 numbersOf (curve f) = record { rate = 0; latency = 0 }
 numbersOf (server s) = s
 
--- A profile is read: no line holds, and a curve stands in the lent list, which a server file leaves.
+-- The reader answers the kind and the bucket count (0 for a server) or the two server numbers (0 for a curve): no line holds, and a curve stands in the lent list, which a server file leaves.
 pub record Read (lines : Lines) (p : Profile) (before after : List ℕ) (code kind count rate latency : ℕ) : Type 0 where
   pub clear : Clear lines
   pub code-is : code ≡ 0
@@ -169,8 +173,10 @@ pub data WriteOutcome (operand : Lines) (p : Profile) (before after : List ℕ) 
   answered :
       Wrote (writeLines operand p (length before)) p before after code count → WriteOutcome operand p before after code count
 
+-- A curve written as a file.
 abbrev pub WriteCurveOutcome : List ℕ → List ℕ → List ℕ → ℕ → ℕ → Type 0
 WriteCurveOutcome l = WriteOutcome (curveLines l) (curve (buckets l))
 
+-- A server written as a file.
 abbrev pub WriteServerOutcome : Server → List ℕ → List ℕ → ℕ → ℕ → Type 0
 WriteServerOutcome s = WriteOutcome (serverLines s) (server s)

@@ -57,6 +57,7 @@ pub record Within (rate-end burst-end : ℕ) (k : Bucket) : Type 0 where
   pub rate-fits : k .rate < rate-end
   pub burst-fits : k .burst < burst-end
 
+-- Every bucket of a list is.
 abbrev pub AllWithin : ℕ → ℕ → List Bucket → Type 0
 AllWithin rate-end burst-end f = (k : Bucket) → k ∈ f → Within rate-end burst-end k
 
@@ -64,6 +65,7 @@ AllWithin rate-end burst-end f = (k : Bucket) → k ∈ f → Within rate-end bu
 abbrev pub InRange : Bucket → Type 0
 InRange = Within (2 ^ 20) (2 ^ 40)
 
+-- Every bucket of a list is within its range.
 abbrev pub AllInRange : List Bucket → Type 0
 AllInRange = AllWithin (2 ^ 20) (2 ^ 40)
 

@@ -10,16 +10,16 @@ use Prim.Native.String.{String}
 use lib.Dec.{ltb}
 use lib.ListN.{length, take, drop}
 use Rattle.meaning.specs.Curve.{Bucket, flat}
-use Rattle.meaning.specs.Server.{Server, join, Behind, Backlog, Delay}
+use Rattle.meaning.specs.Server.{Server, pick, join, Behind, Backlog, Delay}
 use Rattle.meaning.specs.Refusal.{Refusal, HEADER, COUNT, LARGE, number, Lines, _when_, _or_, Wins, Clear, TooLarge}
 use Rattle.meaning.specs.ServerQuestions.{serverLines, portLines, withLarge}
-use Rattle.meaning.specs.Profile.{byteCount, field, profileOf, fileLines, bucketsOf, numbersOf}
-use Rattle.meaning.specs.Computed.{pick}
+use Rattle.meaning.specs.Profile.{curveKind, serverKind, byteCount, field, profileOf, fileLines, bucketsOf, numbersOf}
 
 -- Profiles stand back to back, each taking the bytes its header requires.
 unfoldable pub firstFile : List ℕ → List ℕ
 firstFile input = take (byteCount (profileOf input)) input
 
+-- What stands behind it.
 unfoldable pub afterFirst : List ℕ → List ℕ
 afterFirst input = drop (byteCount (profileOf input)) input
 
@@ -32,6 +32,7 @@ abbrev pub joinLines : Option Server → Server → Lines
 joinLines none s = λ _. ⊥
 joinLines (some before) s = withLarge (serverLines before or serverLines s) (λ joined. joined ≡ join before s)
 
+-- The joined server, or the first one by itself.
 abbrev pub joinedWith : Option Server → Server → Server
 joinedWith none s = s
 joinedWith (some before) s = join before s
@@ -39,7 +40,7 @@ joinedWith (some before) s = join before s
 -- At each server, reading, joining with those before it, backlog, delay and behind all count.
 abbrev pub hopLines : List Bucket → Option Server → List ℕ → Lines
 hopLines f before input =
-    dueLines 2 input or portLines (flat f) s or joinLines before s
+    dueLines serverKind input or portLines (flat f) s or joinLines before s
     or LARGE when ((g : List Bucket) × Behind f s g × TooLarge g)
   where
     s : Server
@@ -50,6 +51,7 @@ pub record Figures : Type 0 where
   pub backlog : ℕ
   pub delay : ℕ
 
+-- They are those of a curve and a server.
 pub record FiguresOf (f : List Bucket) (s : Server) (x : Figures) : Type 0 where
   pub backlog-is : Backlog f s (x .backlog)
   pub delay-is : Delay f s (x .delay)
@@ -85,9 +87,9 @@ pub data Onward (first : List Bucket) : List Figures → Option Server → List 
 
 -- One curve profile, then 1 to 32 server profiles. The earliest profile refused is the one named.
 pub data Reported (input : List ℕ) (report : Report) : Type 0 where
-  no-curve : (r : Refusal) → Wins (dueLines 1 input) r → report ≡ refusedAt r 1 → Reported input report
+  no-curve : (r : Refusal) → Wins (dueLines curveKind input) r → report ≡ refusedAt r 1 → Reported input report
   from-curve :
-      Clear (dueLines 1 input)
+      Clear (dueLines curveKind input)
       → Onward (bucketsOf (profileOf input)) [] none (bucketsOf (profileOf input)) (afterFirst input) report
       → Reported input report
 

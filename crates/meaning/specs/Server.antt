@@ -47,16 +47,16 @@ Excess f rate = GreatestGap (reads f) (λ u. rate * u)
 unfoldable pub later : ℕ → Bucket → Bucket
 later latency k = record { rate = k .rate; burst = k .burst + k .rate * latency }
 
--- A bucket before a list, if it is wanted.
-unfoldable pub addedIf : Bool → Bucket → List Bucket → List Bucket
-addedIf true k f = k ∷ f
-addedIf false k f = f
+-- One of two, by a test.
+unfoldable pub pick {ℓ} : {X : Type ℓ} → Bool → X → X → X
+pick true x y = x
+pick false x y = y
 
 -- (r, b + r·T) for each bucket with r ≤ R
 unfoldable pub slower : Server → List Bucket → List Bucket
-unfolding addedIf later
+unfolding pick later
 slower s [] = []
-slower s (k ∷ f) = addedIf (leb (k .rate) (s .rate)) (later (s .latency) k) (slower s f)
+slower s (k ∷ f) = pick (leb (k .rate) (s .rate)) (later (s .latency) k ∷ slower s f) (slower s f)
 
 -- behind: normal form of (r, b + r·T) for each bucket with r ≤ R, and (R, B), where B = R·T + M.
 pub record Behind (f : List Bucket) (s : Server) (g : List Bucket) : Type 0 where

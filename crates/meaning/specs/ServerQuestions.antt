@@ -13,6 +13,7 @@ pub record ServerInRange (s : Server) : Type 0 where
   pub rate-fits : s .rate < 2 ^ 20
   pub latency-fits : s .latency < 2 ^ 20
 
+-- A server: a rate or latency is outside its range.
 abbrev pub serverLines : Server → Lines
 serverLines s = RANGE when (ServerInRange s → ⊥)
 
@@ -20,12 +21,15 @@ serverLines s = RANGE when (ServerInRange s → ⊥)
 abbrev pub portLines : List ℕ → Server → Lines
 portLines f s = curveLines f or serverLines s or UNBOUNDED when (s .rate < last (buckets f) .rate)
 
+-- behind: the curve behind a server.
 unfoldable pub passing : List ℕ → Server → Question
 passing f s = record { operands = portLines f s; Answer = Behind (buckets f) s }
 
+-- backlog of a curve and a server.
 unfoldable pub BacklogOutcome : List ℕ → Server → ℕ → ℕ → Type 0
 BacklogOutcome f s = FigureOutcome (portLines f s) (Backlog (buckets f) s)
 
+-- delay of a curve and a server.
 unfoldable pub DelayOutcome : List ℕ → Server → ℕ → ℕ → Type 0
 DelayOutcome f s = FigureOutcome (portLines f s) (Delay (buckets f) s)
 
@@ -39,10 +43,11 @@ pub data ServerOutcome (operands : Lines) (Answer : Server → Type 0) (code : �
       Refused (withLarge operands Answer) [] [] code (s .rate) → s .latency ≡ 0 → ServerOutcome operands Answer code s
   answered : Clear (withLarge operands Answer) → code ≡ 0 → Answer s → ServerOutcome operands Answer code s
 
+-- join: a server joins the next one and gives back the joined server.
 unfoldable pub JoinOutcome : Server → Server → ℕ → Server → Type 0
 JoinOutcome s next = ServerOutcome (serverLines s or serverLines next) (λ joined. joined ≡ join s next)
 
--- The last rate is R or more.
+-- residual: the server left beside a cross curve. It is UNBOUNDED where the last rate is R or more.
 unfoldable pub ResidualOutcome : List ℕ → Server → ℕ → Server → Type 0
 ResidualOutcome cross s =
     ServerOutcome (curveLines cross or serverLines s or UNBOUNDED when (s .rate ≤ last (buckets cross) .rate))
