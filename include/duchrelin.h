@@ -1,20 +1,25 @@
 /*
- * Duchrelin: traffic curves for C, at whole ticks and whole bits. Link with libduchrelin.a (x86-64 Linux).
+ * Duchrelin: the delays of a network, for C, at whole ticks and whole bits. Link with libduchrelin.a (x86-64 Linux).
  *
- * Curves. A curve is a list of 64-bit numbers: rate then burst for each bucket, 1 to 64 buckets. A rate is 0 to 2^20-1, a burst
- * 0 to 2^40-1. Every function but duchrelin_normalise takes curves in normal form and refuses others.
+ * Curves. A curve is a list of 64-bit numbers: rate then burst for each bucket, 1 to 64 buckets. A rate is 0 to 2^20-1 bits a
+ * tick, a burst 0 to 2^40-1 bits. Every function but duchrelin_normalise takes curves in normal form and refuses others.
  *
- * Lists. A list is passed as a pointer and its count of numbers, which is twice the count of buckets. The pointer is aligned as
- * for uint64_t, and every number that the count covers can be read, and in an output list written. Of a list of count 0 nothing
- * is read or written, so its pointer may be any, NULL too. f and g may be the same list. An output list overlaps no other list of
- * the call, and nothing else touches a list while the call runs: this is the caller's part, and nothing checks it. An output list
- * may be a part of a larger table.
+ * Servers. A server is a switch port: a rate, 1 to 2^20-1 bits a tick, and a latency, 0 to 2^20-1 ticks. By tick t it has served
+ * rate * (t - latency) bits, and none up to its latency.
  *
- * Answers. Code 0: the answer stands at the start of the output list, `count` buckets in normal form, so 2 * count numbers, and the
- * numbers beyond it stay. An output list of 128 numbers has room for every answer.
+ * Lists. A list is passed as a pointer and its count of NUMBERS, which is DUCHRELIN_BUCKET_NUMBERS times the count of buckets; a
+ * file or a buffer as a pointer and its count of bytes. The pointer is aligned as for its type, and all that the count covers can
+ * be read, and in an output written. Of a list of count 0 nothing is read or written, so its pointer may be any, NULL too. Two
+ * operands may be the same list. An output overlaps no other list of the call, and nothing else touches a list while the call
+ * runs: this is the caller's part, and nothing checks it. An output list may be a part of a larger table.
  *
- * Refusals. Any other code is one of the numbers below, the smallest that applies over all operands. Count and figure are then 0,
- * and every list holds what it held before the call.
+ * Answers. Code 0: the answer is in the result and, for a curve, a file or a text, at the start of the output; what lies beyond it
+ * there stays. An answered curve is in normal form: `count` buckets, so DUCHRELIN_BUCKET_NUMBERS * count numbers. An output list
+ * of DUCHRELIN_CURVE_NUMBERS numbers has room for every curve, a buffer of DUCHRELIN_FILE_BYTES for every file, one of
+ * DUCHRELIN_TEXT_BYTES for every text of a route.
+ *
+ * Refusals. Any other code is one of the numbers below, the smallest that applies over all operands. Every count and figure is then
+ * 0, and every list and buffer holds what it held before the call.
  *
  * Every call ends. None allocates, keeps anything between calls or calls the system, so calls on separate lists may run at the
  * same time. duchrelin_sum takes about 66 KiB of stack, each other function less than 4 KiB.
@@ -29,7 +34,7 @@
 extern "C" {
 #endif
 
-/* The refusals. Curves give 4, 5, 6, 7, 9 and 10. */
+/* The codes. */
 enum {
     DUCHRELIN_ANSWERED = 0,
     DUCHRELIN_HEADER = 1,    /* a file is empty, its edition is not 1, or its kind is not 1 or 2 */
@@ -41,14 +46,32 @@ enum {
     DUCHRELIN_FORM = 7,      /* a curve is not in normal form */
     DUCHRELIN_UNBOUNDED = 8, /* the curve's last rate is too large for the server */
     DUCHRELIN_LARGE = 9,     /* the exact answer has over 64 buckets, or a number out of range */
-    DUCHRELIN_ROOM = 10      /* the output list is shorter than the answer */
+    DUCHRELIN_ROOM = 10      /* the output is shorter than the answer */
 };
 
-/* A code and a count of buckets. */
-typedef struct duchrelin_curve {
+/* The kinds of a profile. */
+enum {
+    DUCHRELIN_KIND_CURVE = 1,
+    DUCHRELIN_KIND_SERVER = 2
+};
+
+/* Sizes: numbers for one bucket; most buckets of a curve, and its numbers; bytes of the longest file; most servers of a route; bytes
+ * of the longest text of a route; bytes of a route's input that decide it, whatever follows. */
+enum {
+    DUCHRELIN_BUCKET_NUMBERS = 2,
+    DUCHRELIN_MOST_BUCKETS = 64,
+    DUCHRELIN_CURVE_NUMBERS = DUCHRELIN_BUCKET_NUMBERS * DUCHRELIN_MOST_BUCKETS,
+    DUCHRELIN_FILE_BYTES = 482,
+    DUCHRELIN_MOST_SERVERS = 32,
+    DUCHRELIN_TEXT_BYTES = 1145,
+    DUCHRELIN_INPUT_BYTES = 675
+};
+
+/* A code, and the count of buckets of the curve in the output list. */
+typedef struct duchrelin_answer {
     uint64_t code;
     uint64_t count;
-} duchrelin_curve;
+} duchrelin_answer;
 
 /* A code and a figure. */
 typedef struct duchrelin_figure {
@@ -56,23 +79,76 @@ typedef struct duchrelin_figure {
     uint64_t figure;
 } duchrelin_figure;
 
+/* A code and a server. */
+typedef struct duchrelin_server {
+    uint64_t code;
+    uint64_t rate;
+    uint64_t latency;
+} duchrelin_server;
+
+/* A code and what a file holds: a curve, its count of buckets and 0 for the rest; or a server, its two numbers and count 0. */
+typedef struct duchrelin_profile {
+    uint64_t code;
+    uint64_t kind;
+    uint64_t count;
+    uint64_t rate;
+    uint64_t latency;
+} duchrelin_profile;
+
+/* A code and how many bytes stand at the start of the buffer. */
+typedef struct duchrelin_written {
+    uint64_t code;
+    uint64_t bytes;
+} duchrelin_written;
+
 /* The list in normal form with the same value at every time. The raw buckets, 1 to 64, may stand in any order and repeat. */
-duchrelin_curve duchrelin_normalise(const uint64_t *raw, size_t raw_count, uint64_t *out, size_t out_count);
+duchrelin_answer duchrelin_normalise(const uint64_t *raw, size_t raw_numbers, uint64_t *out, size_t out_numbers);
 
 /* The curve's value in bits at a tick from 0 to 2^40-1: the least of rate * tick + burst over its buckets. */
-duchrelin_figure duchrelin_value(const uint64_t *curve, size_t curve_count, uint64_t tick);
+duchrelin_figure duchrelin_value(const uint64_t *curve, size_t curve_numbers, uint64_t tick);
 
 /* The lower of the two curves at every time: normal form of the buckets of both. */
-duchrelin_curve duchrelin_lower(const uint64_t *f, size_t f_count, const uint64_t *g, size_t g_count,
-                                uint64_t *out, size_t out_count);
+duchrelin_answer duchrelin_lower(const uint64_t *f, size_t f_numbers, const uint64_t *g, size_t g_numbers,
+                                 uint64_t *out, size_t out_numbers);
 
 /* The two curves added: normal form of all buckets (r + r', b + b'), one from each. */
-duchrelin_curve duchrelin_sum(const uint64_t *f, size_t f_count, const uint64_t *g, size_t g_count,
-                              uint64_t *out, size_t out_count);
+duchrelin_answer duchrelin_sum(const uint64_t *f, size_t f_numbers, const uint64_t *g, size_t g_numbers,
+                               uint64_t *out, size_t out_numbers);
 
 /* The curve shaped by a link of rate 1 to 2^20-1: the lower of the curve and the bucket (link_rate, 0). */
-duchrelin_curve duchrelin_shape(const uint64_t *curve, size_t curve_count, uint64_t link_rate,
-                                uint64_t *out, size_t out_count);
+duchrelin_answer duchrelin_shape(const uint64_t *curve, size_t curve_numbers, uint64_t link_rate,
+                                 uint64_t *out, size_t out_numbers);
+
+/* The server that joins the next one: the smaller rate, the latencies added. */
+duchrelin_server duchrelin_join(uint64_t rate, uint64_t latency, uint64_t next_rate, uint64_t next_latency);
+
+/* The curve behind a server: what it lets through of traffic that keeps to the curve. */
+duchrelin_answer duchrelin_behind(const uint64_t *curve, size_t curve_numbers, uint64_t rate, uint64_t latency,
+                                  uint64_t *out, size_t out_numbers);
+
+/* The most bits that wait at the server at any tick. */
+duchrelin_figure duchrelin_backlog(const uint64_t *curve, size_t curve_numbers, uint64_t rate, uint64_t latency);
+
+/* The fewest ticks by which all that has come by a tick is served, at every tick. */
+duchrelin_figure duchrelin_delay(const uint64_t *curve, size_t curve_numbers, uint64_t rate, uint64_t latency);
+
+/* The server that is left beside cross traffic: with its curve's last bucket (r, b), rate - r, and latency + b / rate rounded up. */
+duchrelin_server duchrelin_residual(uint64_t rate, uint64_t latency, const uint64_t *cross, size_t cross_numbers);
+
+/* The one profile that a file holds. A curve's list is written to `out`; a server file leaves `out` unread and unwritten. */
+duchrelin_profile duchrelin_read(const uint8_t *file, size_t file_bytes, uint64_t *out, size_t out_numbers);
+
+/* A curve as a file. */
+duchrelin_written duchrelin_write_curve(const uint64_t *curve, size_t curve_numbers, uint8_t *buffer, size_t buffer_bytes);
+
+/* A server as a file, of 6 bytes. */
+duchrelin_written duchrelin_write_server(uint64_t rate, uint64_t latency, uint8_t *buffer, size_t buffer_bytes);
+
+/* The report of a route as text: `input` is a curve's file, then 1 to 32 servers' files, back to back. A line `hop N X Y` for each
+ * hop (its number, backlog and delay), then `route X Y` for the joined server over the first curve; or, where anything is refused,
+ * the one line `refused C at K`, with the code and which profile it is, the curve being 1. A refusal inside the route is a text,
+ * so its code is 0: the only code here is ROOM. */
+duchrelin_written duchrelin_route(const uint8_t *input, size_t input_bytes, uint8_t *text, size_t text_bytes);
 
 #ifdef __cplusplus
 }
