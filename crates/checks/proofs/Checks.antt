@@ -2,7 +2,7 @@
 -- Assumes nothing.
 use mathlib.Core.Path.{_≡_, refl, sym, _∙_, subst}
 use mathlib.Core.Logic.{_⊎_, inl, inr, ⊎-elim}
-use mathlib.Core.Bool.{Bool, true, false, not}
+use mathlib.Core.Bool.{Bool, true, false, not, cond}
 use mathlib.Core.List.{List}
 use Prim.Native.Nat.{ℕ, _%_, _^_, _≤_, _<_, min}
 use native.Mathlib.Nat.{lt-of-not-le, min-eq-left, min-eq-right, le-of-lt}
@@ -13,11 +13,10 @@ use borrow.Author.Tests.{eq-eqb, ne-eqb, not-true, not-false}
 use Rattle.meaning.specs.Curve.{buckets, NormalForm}
 use Rattle.meaning.specs.Refusal.{LIST, COUNT, RANGE, FORM, number, Lines, _when_, _or_, Clear, Verdict, accepted, rejected, AllInRange, rawLines, curveLines}
 use Rattle.meaning.specs.Computed.{earlier}
-use Rattle.meaning.specs.Server.{pick}
-use Rattle.meaning.proofs.Outcomes.{number-positive, from-when, up-to-when, up-to-or, line-hit, line-miss, refused-first, refused-then}
+use Rattle.meaning.proofs.outcome.Outcomes.{number-positive, from-when, up-to-when, up-to-or, line-hit, line-miss, refused-first, refused-then}
 use Rattle.checks.specs.Contracts.{Tells}
 use Rattle.meaning.proofs.Lists.{buckets-use}
-use Rattle.meaning.proofs.Stable.{range-stable, normal-stable}
+use Rattle.meaning.proofs.outcome.Stable.{range-stable, normal-stable}
 
 -- ---- The lines of a raw list, in the order of their numbers.
 
@@ -180,19 +179,19 @@ pub ruleset number-lines = (tick-refused, tick-right, link-still, link-fast, lin
 module _ {a b : ℕ} where
   -- the first is none
   pub earlier-second : a ≡ 0 → b ≡ earlier a b
-  unfolding earlier pick
+  unfolding earlier
   earlier-second h = rw (eq-eqb a 0 h)
 
   module _ (some : a ≡ 0 → ⊥) where
     -- the second is none
     pub earlier-first : b ≡ 0 → a ≡ earlier a b
-    unfolding earlier pick
+    unfolding earlier
     earlier-first h = rw (ne-eqb a 0 some, eq-eqb b 0 h)
 
     module _ (other : b ≡ 0 → ⊥) where
       -- both are codes
       both : earlier a b ≡ min a b
-      unfolding earlier pick
+      unfolding earlier
       both = rw (ne-eqb a 0 some, ne-eqb b 0 other)
 
       -- the first is no larger

@@ -15,7 +15,7 @@ use mir.Val.{Fits}
 use Rattle.meaning.specs.Curve.{Bucket, buckets, NormalForm}
 use Rattle.meaning.specs.Refusal.{AllInRange}
 use Rattle.meaning.specs.Computed.{crossingsRise, isNormal}
-use Rattle.meaning.proofs.Neighbours.{neighbours-sound, neighbours-refute}
+use Rattle.meaning.proofs.curve.Neighbours.{neighbours-sound, neighbours-refute}
 use Rattle.checks.specs.Contracts.{Tells}
 use Rattle.checks.proofs.Buckets.{bucket-at, buckets-none, buckets-end, buckets-next, bucket-inside}
 

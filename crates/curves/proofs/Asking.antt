@@ -14,9 +14,9 @@ use Rattle.meaning.specs.Curve.{Bucket, buckets, flat, added, pairs, NormalOf}
 use Rattle.meaning.specs.Refusal.{RANGE, number, Lines, _or_, Clear, Verdict, AllInRange, rawLines, curveLines, Question, over, PartOutcome}
 use Rattle.meaning.specs.CurveQuestions.{linkLine, normalising, lowering, summing, shaping}
 use Rattle.meaning.specs.Computed.{earlier}
-use Rattle.meaning.proofs.Curves.{pairs-from, pairs-length}
-use Rattle.meaning.proofs.Answers.{raw-up-to, curve-up-to}
-use Rattle.meaning.proofs.Outcomes.{up-to-when, up-to-or, clear-or, verdict-or, refuse-in-part, asked-so-in-part, whole-list}
+use Rattle.meaning.proofs.curve.Curves.{pairs-from, pairs-length}
+use Rattle.meaning.proofs.outcome.Answers.{raw-up-to, curve-up-to}
+use Rattle.meaning.proofs.outcome.Outcomes.{up-to-when, up-to-or, clear-or, verdict-or, refuse-in-part, asked-so-in-part, whole-list}
 use Rattle.curves.specs.Contracts.{AllWide, settling}
 use Rattle.meaning.proofs.Lists.{buckets-use, buckets-flat}
 use Rattle.checks.proofs.Buckets.{buckets-append}

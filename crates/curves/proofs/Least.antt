@@ -9,11 +9,11 @@ use native.Mathlib.Omega.{arith}
 use mir.Syntax.{w64}
 use mir.Val.{Fits}
 use lib.ListN.{length, getD, drop}
-use Rattle.meaning.specs.Curve.{Bucket, buckets, bucketAt, valueAt, tickValue}
+use Rattle.meaning.specs.Curve.{Bucket, buckets, bucketAt, valueAt, reads}
 use Rattle.meaning.specs.Refusal.{RANGE, _when_, _or_, Clear, Verdict, AllInRange, rawLines, curveLines, FigureOutcome}
 use Rattle.meaning.specs.Computed.{earlier}
 use Rattle.meaning.specs.CurveQuestions.{ValueOutcome}
-use Rattle.meaning.proofs.Outcomes.{verdict-or, refusal}
+use Rattle.meaning.proofs.outcome.Outcomes.{verdict-or, refusal}
 use Rattle.checks.proofs.Buckets.{bucket-at, buckets-end, buckets-next, bucket-inside}
 use Rattle.checks.proofs.Checks.{passed, clear-first, clear-second, raw-ranges, raw-some}
 
@@ -24,13 +24,13 @@ least-of found t [] = found
 least-of found t (k ∷ f) = least-of (min found (bucketAt k t 1)) t f
 
 -- over a list that is not empty it is the smaller of the number and the list's value
-least-value : (a t : ℕ) (k : Bucket) (f : List Bucket) → least-of a t (k ∷ f) ≡ min a (tickValue (k ∷ f) t)
+least-value : (a t : ℕ) (k : Bucket) (f : List Bucket) → least-of a t (k ∷ f) ≡ min a (reads (k ∷ f) t)
 unfolding least-of valueAt
 least-value a t k [] = refl
 least-value a t k (j ∷ f) = least-value (min a (bucketAt k t 1)) t j f ∙ omega arith
 
 -- from the first bucket's value on it is the list's value
-least-all : (t : ℕ) (k : Bucket) (f : List Bucket) → least-of (bucketAt k t 1) t f ≡ tickValue (k ∷ f) t
+least-all : (t : ℕ) (k : Bucket) (f : List Bucket) → least-of (bucketAt k t 1) t f ≡ reads (k ∷ f) t
 unfolding least-of valueAt
 least-all t k [] = refl
 least-all t k (j ∷ f) = least-value (bucketAt k t 1) t j f
@@ -41,7 +41,7 @@ pub record Least (l : List ℕ) (t found i : ℕ) : Type 0 where
   pub even : i % 2 ≡ 0
   pub ranges : AllInRange (buckets l)
   pub tick-fits : t ≤ 2 ^ 40
-  pub decides : least-of found t (buckets (drop i l)) ≡ tickValue (buckets l) t
+  pub decides : least-of found t (buckets (drop i l)) ≡ reads (buckets l) t
 
 -- the value of the bucket at an index
 bucket-value : (l : List ℕ) (i t : ℕ) → bucketAt (bucket-at l i) t 1 ≡ getD l i 0 * t + getD l (i + 1) 0
@@ -79,7 +79,7 @@ module _ (l : List ℕ) (t : ℕ) (all : AllInRange (buckets l)) (some : 2 ≤ l
         decides =
             ap (λ (n : ℕ). least-of n t (buckets (drop 2 l))) (sym (bucket-value l 0 t))
             ∙ least-all t (bucket-at l 0) (buckets (drop 2 l))
-            ∙ ap (λ (f : List Bucket). tickValue f t) (sym (buckets-next l 0 some));
+            ∙ ap (λ (f : List Bucket). reads f t) (sym (buckets-next l 0 some));
       }
 
 module _ {l : List ℕ} {t found i : ℕ} (w : Least l t found i) (h : i + 1 < length l) where
@@ -114,7 +114,7 @@ module _ {l : List ℕ} {t found i : ℕ} (w : Least l t found i) (h : i + 1 < l
   least-kept kept = counted _ (omega (arith, bucket-value l i t))
 
 -- no bucket is left
-pub least-end : {l : List ℕ} {t found i : ℕ} → Least l t found i → length l ≤ i + 1 → found ≡ tickValue (buckets l) t
+pub least-end : {l : List ℕ} {t found i : ℕ} → Least l t found i → length l ≤ i + 1 → found ≡ reads (buckets l) t
 unfolding least-of
 least-end {l} {i = i} w h = rw (buckets-end l i h) at (w .decides)
 
@@ -157,7 +157,7 @@ module _
       value-tick = le-of-lt (lt-of-not-le (λ over. clear-second (passed together none) RANGE (refl, over)))
 
       -- the least value is the answer
-      pub value-answered : (figure : ℕ) → figure ≡ tickValue (buckets f) t → ValueOutcome f t 0 figure
+      pub value-answered : (figure : ℕ) → figure ≡ reads (buckets f) t → ValueOutcome f t 0 figure
       unfolding ValueOutcome
       value-answered figure is = FigureOutcome.answered (passed together none) refl is
 

@@ -11,7 +11,7 @@ use mir.Syntax.{w64}
 use mir.Val.{Fits}
 use Rattle.meaning.specs.Curve.{Bucket, _∈_, buckets, flat, added, pairs}
 use Rattle.meaning.specs.Refusal.{AllInRange, over}
-use Rattle.meaning.proofs.Curves.{pairs-length}
+use Rattle.meaning.proofs.curve.Curves.{pairs-length}
 use Rattle.curves.specs.Contracts.{bucket}
 use Rattle.meaning.proofs.Lists.{buckets-use, flat-length}
 use Rattle.checks.proofs.Buckets.{bucket-at, buckets-next, buckets-end, flat-append}

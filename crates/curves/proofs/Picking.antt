@@ -15,8 +15,8 @@ use lib.ListN.{length, take, drop, set, length-append, length-set}
 use lib.Seq.{append-snoc, take-suc-set}
 use Rattle.meaning.specs.Curve.{Bucket, _∈_, buckets, flat, bucketAt, Falling, Useful}
 use Rattle.meaning.specs.Computed.{Ends, everyTime, narrowed, isOpen, staysOpen, isUseful, normal}
-use Rattle.meaning.proofs.Usefulness.{useful-sound, useful-complete}
-use Rattle.meaning.proofs.Normal.{Chosen, chosen-among}
+use Rattle.meaning.proofs.curve.Usefulness.{useful-sound, useful-complete}
+use Rattle.meaning.proofs.curve.Normal.{Chosen, chosen-among}
 use Rattle.curves.specs.Contracts.{Wide, AllWide, bucketOf, endsOf, EndsFit, SearchFits, Ahead, First, Best, Chose}
 use Rattle.curves.specs.declared.settle.Bucket as held-bucket
 use Rattle.curves.specs.declared.settle.Ends as held-ends

@@ -13,9 +13,9 @@ use lib.ListN.{length, take, drop, take-append-drop}
 use Rattle.meaning.specs.Curve.{buckets, flat}
 use Rattle.meaning.specs.Computed.{normal}
 use Rattle.meaning.specs.Refusal.{LIST, RANGE, number, _when_, Clear, Verdict, AllWithin, TooLarge, over, Question, Outcome, part, PartOutcome}
-use Rattle.meaning.proofs.Unique.{normal-of-unique}
-use Rattle.meaning.proofs.Normal.{normal-is}
-use Rattle.meaning.proofs.Outcomes.{Single, Same, one-part-outcome, from-when, up-to-when, up-to-or, line-hit, line-miss, clear-or, refused-first, refused-then, refuse, too-large, no-room, written-out}
+use Rattle.meaning.proofs.curve.Unique.{normal-of-unique}
+use Rattle.meaning.proofs.curve.Normal.{normal-is}
+use Rattle.meaning.proofs.outcome.Outcomes.{Single, Same, one-part-outcome, from-when, up-to-when, up-to-or, line-hit, line-miss, clear-or, refused-first, refused-then, refuse, too-large, no-room, written-out}
 use Rattle.checks.specs.Contracts.{Tells}
 use Rattle.curves.specs.Contracts.{AllWide, settling, Chose, Placed}
 use Rattle.checks.proofs.Checks.{passed}

@@ -3,7 +3,7 @@ ghost use mathlib.Core.Path.{_≡_};
 ghost use Prim.Native.Nat.{_≤_, _^_};
 ghost use lib.ListN.{length};
 ghost use Rattle.meaning.specs.Refusal.{AllInRange};
-ghost use Rattle.meaning.specs.Curve.{buckets, tickValue};
+ghost use Rattle.meaning.specs.Curve.{buckets, reads};
 ghost use Rattle.meaning.specs.CurveQuestions.{ValueOutcome};
 
 // A code, 0 for an answer, and the figure, 0 for a refusal.
@@ -17,7 +17,7 @@ fn least(curve: &[u64], tick: u64) -> u64
     requires { ⌜ AllInRange (buckets (now curve)) ⌝ }
     requires { ⌜ 2 ≤ length (now curve) ⌝ }
     requires { ⌜ tick ≤ 2 ^ 40 ⌝ }
-    ensures { λ r. ⌜ r ≡ tickValue (buckets (now (curve .entry))) tick ⌝ }
+    ensures { λ r. ⌜ r ≡ reads (buckets (now (curve .entry))) tick ⌝ }
 {
     let mut found = curve[0] * tick + curve[1];
     let mut i = 2;

@@ -16,15 +16,15 @@ use Rattle.meaning.specs.Profile.{bitsOf, spelt, packed, fileBits, bytes
 use Rattle.meaning.specs.Computed.{isNormal, normal, behind, backlog, delay, residual}
 use Rattle.meaning.specs.Route.{bytes, firstFile, afterFirst, dueLines, joinLines, joinedWith, hopLines, Figures, FiguresOf, Report, Onward, Reported, text}
 use Rattle.meaning.specs.Figures.{C, port, Table}
-use Rattle.meaning.proofs.Normal.{normal-is}
-use Rattle.meaning.proofs.Outcomes.{clear-or}
-use Rattle.meaning.proofs.Answers.{clear-form, clear-fits, fits-few, fits-ranged, curve-clear}
-use Rattle.meaning.proofs.Demands.{refused-behind, refused-figure}
-use Rattle.meaning.proofs.HopByHop.{behind-unique}
-use Rattle.meaning.proofs.Behind.{behind-is, backlog-is}
-use Rattle.meaning.proofs.Delay.{delay-is}
-use Rattle.meaning.proofs.Joining.{residual-is}
-use Rattle.meaning.proofs.Profiles.{ReadsBack, read-back-curve, read-back-server, server-bytes}
+use Rattle.meaning.proofs.curve.Normal.{normal-is}
+use Rattle.meaning.proofs.outcome.Outcomes.{clear-or}
+use Rattle.meaning.proofs.outcome.Answers.{clear-form, clear-fits, fits-few, fits-ranged, curve-clear}
+use Rattle.meaning.proofs.outcome.Demands.{refused-behind, refused-figure}
+use Rattle.meaning.proofs.server.HopByHop.{behind-unique}
+use Rattle.meaning.proofs.server.Behind.{behind-is, backlog-is}
+use Rattle.meaning.proofs.server.Delay.{delay-is}
+use Rattle.meaning.proofs.server.Joining.{residual-is}
+use Rattle.meaning.proofs.profile.Profiles.{ReadsBack, read-back-curve, read-back-server, server-bytes}
 
 -- A list of numbers that no line of a curve refuses.
 record Sound (l : List ℕ) : Type 0 where
@@ -121,7 +121,7 @@ worked {l} s c slow some-rate =
 
 -- the figures P1 to P12
 pub table : Table
-unfolding buckets flat pairs normal last valueAt Crossing behind backlog delay residual join written byteCount profileBits fields bucketFields packed bitsOf spelt bytesOf field fileBits bucketsIn profileOf firstFile afterFirst bytes text BacklogOutcome DelayOutcome
+unfolding buckets flat pairs normal last valueAt behind backlog delay residual join written byteCount profileBits fields bucketFields packed bitsOf spelt bytesOf field fileBits bucketsIn profileOf firstFile afterFirst bytes text BacklogOutcome DelayOutcome
 table =
     let c-first = worked (port 6 4) c-sound (lit≤ tt) (lit≤ tt) in
     let c32 = one-bucket 3 32 (omega arith) in

@@ -9,7 +9,7 @@ use native.Mathlib.Numerals.{unary-clauses}
 use native.Mathlib.Omega.{arith}
 use lib.ListN.{length, take, drop, getD, length-append, length-drop}
 use lib.Seq.{take-append-seam, drop-append-seam, drop-append-add}
-use Rattle.meaning.specs.Curve.{Bucket, _∈_, buckets, flat, Falling}
+use Rattle.meaning.specs.Curve.{Bucket, _∈_, buckets, flat, width, curveOf, listOf, Falling}
 use Rattle.meaning.specs.Refusal.{InRange, AllInRange, over}
 
 -- ---- What each element has.
@@ -45,12 +45,36 @@ unfolding buckets flat
 buckets-flat [] = refl
 buckets-flat (k ∷ f) = ap (λ (g : List Bucket). k ∷ g) (buckets-flat f)
 
+-- ---- A curve and its list.
+
+-- each bucket takes its numbers, and a list that does not come out even has more
+pub curve-use : (l : List ℕ) → length l ≡ width * length (curveOf l) + length l % width
+unfolding curveOf
+curve-use l = buckets-use l
+
+-- so many numbers for each bucket
+pub list-length : (f : List Bucket) → length (listOf f) ≡ width * length f
+unfolding listOf
+list-length f = flat-length f
+
+-- the curve of a curve's list is the curve
+pub curve-list : (f : List Bucket) → curveOf (listOf f) ≡ f
+unfolding curveOf listOf
+curve-list f = buckets-flat f
+
+-- ---- Buckets by their positions.
+
 -- the rate of the bucket numbered i, from 0, is the number at 2 * i
 pub flat-rate : (f : List Bucket) (i : ℕ) (k : Bucket) → i < length f → getD (flat f) (2 * i) 0 ≡ getD f i k .rate
 unfolding flat
 flat-rate [] i k h = absurd (omega arith)
 flat-rate (j ∷ f) zero k h = refl
 flat-rate (j ∷ f) (suc i) k h = simp unary-clauses (flat-rate f i k (omega arith))
+
+-- the same in a curve's list
+pub list-rate : (f : List Bucket) (i : ℕ) (k : Bucket) → i < length f → getD (listOf f) (width * i) 0 ≡ getD f i k .rate
+unfolding listOf
+list-rate f i k h = flat-rate f i k h
 
 -- ---- Buckets by their positions, counted from 0.
 

@@ -11,17 +11,16 @@ use native.Mathlib.Nat.{le-of-lt}
 use native.Mathlib.Decide.{ℕ-discrete}
 use native.Mathlib.Omega.{arith}
 use lib.ListN.{length, getD}
-use Rattle.meaning.specs.Curve.{Bucket, _∈_, bucketAt, tickValue, Falling, Useful, NormalForm, Crossing}
-use Rattle.meaning.specs.Server.{Server, Instant, served, reads, GreatestGap, Excess, Backlog}
+use Rattle.meaning.specs.Curve.{Bucket, _∈_, bucketAt, Falling, Useful, NormalForm, Crossing, reads, numbered}
+use Rattle.meaning.specs.Server.{Server, Instant, served, GreatestGap, Excess, Backlog}
 use Rattle.meaning.specs.Refusal.{AllInRange}
 use Rattle.meaning.specs.Profile.{written, field, profileOf, curve, bucketsOf}
 use Rattle.meaning.proofs.Order.{le-or-lt, lt-or-eq-or-gt}
 use Rattle.meaning.proofs.Lists.{at-inside, falling-at}
-use Rattle.meaning.proofs.Value.{same-rate, value-least, value-reached}
-use Rattle.meaning.proofs.Neighbours.{meet, meet-at, below-rises}
-use Rattle.meaning.proofs.Joining.{served-past}
-use Rattle.meaning.proofs.Excess.{numbered}
-use Rattle.meaning.proofs.Profiles.{curve-bytes, held-curve, held-server, buckets-in-range}
+use Rattle.meaning.proofs.curve.Value.{same-rate, value-least, value-reached}
+use Rattle.meaning.proofs.curve.Neighbours.{meet, meet-at, below-rises}
+use Rattle.meaning.proofs.server.Joining.{served-past}
+use Rattle.meaning.proofs.profile.Profiles.{curve-bytes, held-curve, held-server, buckets-in-range}
 
 -- ---- Normal form: every other bucket is every bucket at another position.
 
@@ -137,7 +136,7 @@ pub record SmallestBurst (f : List Bucket) (n : ℕ) : Type 0 where
   pub smallest : (k : Bucket) → k ∈ f → n ≤ k .burst
 
 -- the value at tick 0 is the smallest burst
-pub value-at-zero : (f : List Bucket) → 1 ≤ length f → SmallestBurst f (tickValue f 0)
+pub value-at-zero : (f : List Bucket) → 1 ≤ length f → SmallestBurst f (reads f 0)
 unfolding bucketAt
 value-at-zero f h =
     let r = value-reached f 0 1 h in
@@ -204,7 +203,6 @@ module _ (f : List Bucket) (k p q : ℕ) where
   pub crossing-time :
       numbered f k .rate ≤ numbered f (k - 1) .rate → numbered f (k - 1) .burst ≤ numbered f k .burst
       → Crossing f k p q ↔ CrossingTime f k p q
-  unfolding Crossing
   crossing-time falls rises = meet-at (meet (numbered f (k - 1)) (numbered f k) falls rises) p q
 
   -- so it is for every two neighbours in normal form

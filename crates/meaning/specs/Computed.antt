@@ -1,17 +1,16 @@
 -- Forms that can be worked out, for the figures and for code to follow. None of them is what anything means: for each, a
--- theorem of proofs/ says that it is the meaning that Curve and Server give (docs/LAWS.md lists them).
+-- theorem of proofs/ says that it is the meaning that Curve and RateLatency give (docs/LAWS.md lists them).
 -- Assumes nothing.
-use mathlib.Core.Bool.{Bool, true, false, _&&_}
+use mathlib.Core.Bool.{Bool, true, false, _&&_, cond}
 use mathlib.Core.List.{List, [], _∷_, _++_}
 use Prim.Native.Nat.{ℕ, _+_, _-_, _*_, _/_, min, max}
 use lib.Dec.{leb, ltb, eqb}
-use Rattle.meaning.specs.Curve.{Bucket, valueAt, tickValue}
-use Rattle.meaning.specs.Server.{Server, pick, reads, slower, last}
+use Rattle.meaning.specs.Curve.{Bucket, reads}
+use Rattle.meaning.specs.Server.{RateLatency, slower, last}
 
 -- The smaller of two codes, where 0 is none.
 unfoldable pub earlier : ℕ → ℕ → ℕ
-unfolding pick
-earlier a b = pick (eqb a 0) b (pick (eqb b 0) a (min a b))
+earlier a b = cond (eqb a 0) b (cond (eqb b 0) a (min a b))
 
 -- The neighbours' test of normal form: from a bucket on, where the crossing before it is x/y, rates fall, and each crossing
 -- with the next bucket comes later than the one before.
@@ -42,32 +41,29 @@ everyTime = record { low = 0; lowOver = 1; high = 1; highOver = 0 }
 
 -- A steeper bucket j is above c only past their crossing, which may be the later end.
 unfoldable pub afterSteeper : Bucket → Bucket → Ends → Ends
-unfolding pick
 afterSteeper c j e =
-    pick (ltb (e .low * (j .rate - c .rate)) ((c .burst - j .burst) * e .lowOver))
+    cond (ltb (e .low * (j .rate - c .rate)) ((c .burst - j .burst) * e .lowOver))
     (record { low = c .burst - j .burst; lowOver = j .rate - c .rate; high = e .high; highOver = e .highOver })
     e
 
 -- A flatter bucket j is above c only up to their crossing, which may be the earlier end.
 unfoldable pub beforeFlatter : Bucket → Bucket → Ends → Ends
-unfolding pick
 beforeFlatter c j e =
-    pick (ltb ((j .burst - c .burst) * e .highOver) (e .high * (c .rate - j .rate)))
+    cond (ltb ((j .burst - c .burst) * e .highOver) (e .high * (c .rate - j .rate)))
     (record { low = e .low; lowOver = e .lowOver; high = j .burst - c .burst; highOver = c .rate - j .rate })
     e
 
 -- A bucket of the same rate is never above c, or always.
 unfoldable pub besideEqual : Bucket → Bucket → Ends → Ends
-unfolding pick
 besideEqual c j e =
-    pick (ltb (j .burst) (c .burst)) (record { low = e .low; lowOver = e .lowOver; high = 0; highOver = 1 }) e
+    cond (ltb (j .burst) (c .burst)) (record { low = e .low; lowOver = e .lowOver; high = 0; highOver = 1 }) e
 
 -- The times that are left once bucket j is seen too.
 unfoldable pub narrowed : Bucket → Bucket → Ends → Ends
-unfolding pick afterSteeper beforeFlatter besideEqual
+unfolding afterSteeper beforeFlatter besideEqual
 narrowed c j e =
-    pick (ltb (c .rate) (j .rate)) (afterSteeper c j e)
-    (pick (ltb (j .rate) (c .rate)) (beforeFlatter c j e) (besideEqual c j e))
+    cond (ltb (c .rate) (j .rate)) (afterSteeper c j e)
+    (cond (ltb (j .rate) (c .rate)) (beforeFlatter c j e) (besideEqual c j e))
 
 -- Some time is left.
 unfoldable pub isOpen : Ends → Bool
@@ -86,62 +82,61 @@ isUseful f c = staysOpen c everyTime f
 
 -- A bucket put in its place by falling rates. (Two useful buckets of one rate are the same bucket.)
 unfoldable pub insert : Bucket → List Bucket → List Bucket
-unfolding pick
 insert k [] = k ∷ []
-insert k (j ∷ f) = pick (ltb (j .rate) (k .rate)) (k ∷ j ∷ f) (pick (ltb (k .rate) (j .rate)) (j ∷ insert k f) (j ∷ f))
+insert k (j ∷ f) = cond (ltb (j .rate) (k .rate)) (k ∷ j ∷ f) (cond (ltb (k .rate) (j .rate)) (j ∷ insert k f) (j ∷ f))
 
 -- The useful ones of some buckets of a list, by falling rates.
 unfoldable pub chosen : List Bucket → List Bucket → List Bucket
-unfolding pick insert isUseful
+unfolding insert isUseful
 chosen raw [] = []
-chosen raw (k ∷ f) = pick (isUseful raw k) (insert k (chosen raw f)) (chosen raw f)
+chosen raw (k ∷ f) = cond (isUseful raw k) (insert k (chosen raw f)) (chosen raw f)
 
 -- The normal form of a list.
 unfoldable pub normal : List Bucket → List Bucket
 unfolding chosen
 normal raw = chosen raw raw
 
--- The greatest of value(s) - R·s for a curve in normal form, the bucket before given: it is reached at the first whole tick
+-- The greatest of value(s) - R·s for a curve in normal form: it is reached at the last whole tick
 -- up to the crossing with the first bucket of rate at most R, or at the one after.
 unfoldable pub excessAt : List Bucket → ℕ → ℕ → ℕ
-unfolding reads valueAt
+unfolding reads
 excessAt f rate s = max (reads f s - rate * s) (reads f (s + 1) - rate * (s + 1))
 
 -- (from a bucket on, the bucket before it given)
 unfoldable pub excessFrom : List Bucket → ℕ → Bucket → List Bucket → ℕ
-unfolding pick excessAt
+unfolding excessAt
 excessFrom f rate before [] = 0
 excessFrom f rate before (k ∷ g) =
-    pick (leb (k .rate) rate) (excessAt f rate ((k .burst - before .burst) / (before .rate - k .rate)))
+    cond (leb (k .rate) rate) (excessAt f rate ((k .burst - before .burst) / (before .rate - k .rate)))
     (excessFrom f rate k g)
 
 -- (for a whole curve: where its first rate is at most R, it is reached at tick 0)
 unfoldable pub excess : List Bucket → ℕ → ℕ
-unfolding pick excessFrom
+unfolding excessFrom
 excess [] rate = 0
-excess (k ∷ f) rate = pick (leb (k .rate) rate) (k .burst) (excessFrom (k ∷ f) rate k f)
+excess (k ∷ f) rate = cond (leb (k .rate) rate) (k .burst) (excessFrom (k ∷ f) rate k f)
 
 -- The curve behind a server.
-unfoldable pub behind : List Bucket → Server → List Bucket
+unfoldable pub behind : List Bucket → RateLatency → List Bucket
 unfolding normal excess slower
 behind f s = normal (slower s f ++ record { rate = s .rate; burst = s .rate * s .latency + excess f (s .rate) } ∷ [])
 
 -- backlog is the value at 0 of the curve behind.
-unfoldable pub backlog : List Bucket → Server → ℕ
-unfolding behind valueAt
-backlog f s = tickValue (behind f s) 0
+unfoldable pub backlog : List Bucket → RateLatency → ℕ
+unfolding behind reads
+backlog f s = reads (behind f s) 0
 
 -- A quotient rounded up.
 unfoldable pub roundedUp : ℕ → ℕ → ℕ
 roundedUp b r = (b + r - 1) / r
 
 -- delay is T + M/R rounded up, and 0 for the curve that carries nothing, whose value at tick 1 is 0.
-unfoldable pub delay : List Bucket → Server → ℕ
-unfolding pick excess roundedUp valueAt
-delay f s = pick (eqb (tickValue f 1) 0) 0 (s .latency + roundedUp (excess f (s .rate)) (s .rate))
+unfoldable pub delay : List Bucket → RateLatency → ℕ
+unfolding excess roundedUp reads
+delay f s = cond (eqb (reads f 1) 0) 0 (s .latency + roundedUp (excess f (s .rate)) (s .rate))
 
 -- The server left beside a cross curve.
-unfoldable pub residual : List Bucket → Server → Server
+unfoldable pub residual : List Bucket → RateLatency → RateLatency
 unfolding roundedUp last
 residual cross s =
     record { rate = s .rate - last cross .rate; latency = s .latency + roundedUp (last cross .burst) (s .rate) }

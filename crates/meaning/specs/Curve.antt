@@ -16,7 +16,7 @@ pub record Bucket : Type 0 where
 abbrev pub _∈_ : Bucket → List Bucket → Type 0
 k ∈ f = List·Memᴰ k f
 
--- A curve is a list of numbers, rate then burst for each bucket.
+-- The buckets of a raw list of numbers, which has rate then burst for each.
 unfoldable pub buckets : List ℕ → List Bucket
 buckets [] = []
 buckets (r ∷ []) = []
@@ -26,6 +26,18 @@ buckets (r ∷ b ∷ l) = record { rate = r; burst = b } ∷ buckets l
 unfoldable pub flat : List Bucket → List ℕ
 flat [] = []
 flat (k ∷ f) = k .rate ∷ k .burst ∷ flat f
+
+-- A curve's list has so many numbers for each bucket,
+abbrev pub width : ℕ
+width = 2
+
+-- rate then burst: the curve of a list,
+unfoldable pub curveOf : List ℕ → List Bucket
+curveOf l = buckets l
+
+-- and the list of a curve.
+unfoldable pub listOf : List Bucket → List ℕ
+listOf f = flat f
 
 -- A bucket's value at p/q is r·p/q + b.
 unfoldable pub bucketAt : Bucket → ℕ → ℕ → ℕ
@@ -38,9 +50,13 @@ valueAt [] p q = 0
 valueAt (k ∷ []) p q = bucketAt k p q
 valueAt (k ∷ j ∷ f) p q = min (bucketAt k p q) (valueAt (j ∷ f) p q)
 
--- Its value at whole tick t is the least of r·t + b.
-abbrev pub tickValue : List Bucket → ℕ → ℕ
-tickValue f t = valueAt f t 1
+-- What backlog, delay and the curve behind read of a curve at a tick, also at 0: the least of r·t + b.
+unfoldable pub reads : List Bucket → ℕ → ℕ
+reads f t = valueAt f t 1
+
+-- value: at whole tick t the least of r·t + b. At tick 0 that is the smallest burst.
+unfoldable pub value : List Bucket → ℕ → ℕ
+value f t = valueAt f t 1
 
 -- Rates fall strictly.
 unfoldable pub Falling : List Bucket → Type 0
@@ -70,13 +86,16 @@ pub record NormalOf (raw f : List Bucket) : Type 0 where
   pub form : NormalForm f
   pub same : SameCurve raw f
 
--- The crossing numbered k is that of bucket k-1 with bucket k, buckets counted from 1: the time p/q at which both have one value.
-unfoldable pub Crossing : List Bucket → ℕ → ℕ → ℕ → Type 0
-unfolding bucketAt
-Crossing f k p q = bucketAt (numbered (k - 1)) p q ≡ bucketAt (numbered k) p q
-  where
-    numbered : ℕ → Bucket
-    numbered i = getD f (i - 1) (record { rate = 0; burst = 0 })
+-- The bucket numbered i, counted from 1.
+abbrev pub numbered : List Bucket → ℕ → Bucket
+numbered f i = getD f (i - 1) (record { rate = 0; burst = 0 })
+
+-- The crossing numbered k, from 2 on, is that of bucket k-1 with bucket k: the time p/q at which both have one value.
+pub record Crossing (f : List Bucket) (k p q : ℕ) : Type 0 where
+  pub from-second : 2 ≤ k
+  pub inside : k ≤ length f
+  pub q-positive : 0 < q
+  pub meets : bucketAt (numbered f (k - 1)) p q ≡ bucketAt (numbered f k) p q
 
 -- lower: normal form of both curves' buckets together.
 abbrev pub Lower : List Bucket → List Bucket → List Bucket → Type 0
@@ -96,6 +115,10 @@ pairs (k ∷ f) g = map (added k) g ++ pairs f g
 abbrev pub Sum : List Bucket → List Bucket → List Bucket → Type 0
 Sum f g = NormalOf (pairs f g)
 
--- shape: lower of the curve and the bucket (D, 0), D the link's rate.
-abbrev pub Shape : List Bucket → ℕ → List Bucket → Type 0
-Shape f d = Lower f (record { rate = d; burst = 0 } ∷ [])
+-- A link's bucket is (D, 0), D its rate.
+abbrev pub linkBucket : ℕ → Bucket
+linkBucket d = record { rate = d; burst = 0 }
+
+-- shape: lower of the curve and the link's bucket.
+abbrev pub Shape : List Bucket → Bucket → List Bucket → Type 0
+Shape f link = Lower f (link ∷ [])

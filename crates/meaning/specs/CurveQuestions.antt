@@ -4,7 +4,7 @@ use mathlib.Core.Path.{_≡_}
 use mathlib.Core.Logic.{_⊎_}
 use mathlib.Core.List.{List}
 use Prim.Native.Nat.{ℕ, _^_, _≤_}
-use Rattle.meaning.specs.Curve.{buckets, NormalOf, Lower, Sum, Shape, tickValue}
+use Rattle.meaning.specs.Curve.{buckets, curveOf, value, NormalOf, Lower, Sum, linkBucket, Shape}
 use Rattle.meaning.specs.Refusal.{RANGE, Lines, _when_, _or_, rawLines, curveLines, Question, FigureOutcome}
 
 -- normalise takes a raw list; every other operation takes curves in normal form.
@@ -13,11 +13,11 @@ normalising raw = record { operands = rawLines raw; Answer = NormalOf (buckets r
 
 -- lower takes two curves.
 unfoldable pub lowering : List ℕ → List ℕ → Question
-lowering f g = record { operands = curveLines f or curveLines g; Answer = Lower (buckets f) (buckets g) }
+lowering f g = record { operands = curveLines f or curveLines g; Answer = Lower (curveOf f) (curveOf g) }
 
 -- sum takes two curves.
 unfoldable pub summing : List ℕ → List ℕ → Question
-summing f g = record { operands = curveLines f or curveLines g; Answer = Sum (buckets f) (buckets g) }
+summing f g = record { operands = curveLines f or curveLines g; Answer = Sum (curveOf f) (curveOf g) }
 
 -- The link's rate is 1 to 2^20-1.
 abbrev pub linkLine : ℕ → Lines
@@ -25,7 +25,7 @@ linkLine d = RANGE when ((d ≡ 0) ⊎ (2 ^ 20 ≤ d))
 
 -- shape takes a curve and the link's rate.
 unfoldable pub shaping : List ℕ → ℕ → Question
-shaping f d = record { operands = curveLines f or linkLine d; Answer = Shape (buckets f) d }
+shaping f d = record { operands = curveLines f or linkLine d; Answer = Shape (curveOf f) (linkBucket d) }
 
 -- A tick is 0 to 2^40-1.
 abbrev pub tickLine : ℕ → Lines
@@ -34,4 +34,4 @@ tickLine t = RANGE when (2 ^ 40 ≤ t)
 -- value: the curve's value at a tick.
 unfoldable pub ValueOutcome : List ℕ → ℕ → ℕ → ℕ → Type 0
 ValueOutcome f t code figure =
-    FigureOutcome (curveLines f or tickLine t) (λ v. v ≡ tickValue (buckets f) t) code figure
+    FigureOutcome (curveLines f or tickLine t) (λ v. v ≡ value (curveOf f) t) code figure

@@ -4,11 +4,11 @@
 use mathlib.Core.Path.{_≡_}
 use mathlib.Core.List.{List, [], _∷_, _++_}
 use Prim.Native.Nat.{ℕ, _≤_, _<_}
-use Rattle.meaning.specs.Curve.{Bucket, buckets, valueAt, tickValue, NormalOf, Crossing, Sum}
+use Rattle.meaning.specs.Curve.{Bucket, buckets, listOf, valueAt, reads, NormalOf, Crossing, Sum}
 use Rattle.meaning.specs.Server.{Server, join, Behind, Backlog, Delay, Residual}
 use Rattle.meaning.specs.Refusal.{PartOutcome}
 use Rattle.meaning.specs.ServerQuestions.{passing, BacklogOutcome, DelayOutcome}
-use Rattle.meaning.specs.Profile.{curve, server, written}
+use Rattle.meaning.specs.Profile.{edition, curve, server, written}
 use Rattle.meaning.specs.Route.{bytes, Route}
 
 -- Let C be {(10,2),(3,20)}.
@@ -32,7 +32,7 @@ pub record Table : Type 0 where
   pub p3 :
       NormalOf (buckets (10 ∷ 0 ∷ 4 ∷ 2 ∷ 0 ∷ 5 ∷ [])) (buckets (10 ∷ 0 ∷ 4 ∷ 2 ∷ 0 ∷ 5 ∷ []))
       × (valueAt (buckets (4 ∷ 2 ∷ [])) 1 2 < valueAt (buckets (10 ∷ 0 ∷ 0 ∷ 5 ∷ [])) 1 2)
-      × ((t : ℕ) → tickValue (buckets (10 ∷ 0 ∷ 0 ∷ 5 ∷ [])) t ≤ tickValue (buckets (4 ∷ 2 ∷ [])) t)
+      × ((t : ℕ) → reads (buckets (10 ∷ 0 ∷ 0 ∷ 5 ∷ [])) t ≤ reads (buckets (4 ∷ 2 ∷ [])) t)
   -- C plus {(4,0),(2,2)}: (14,2),(12,4),(5,22)
   pub p4 : Sum C (buckets (4 ∷ 0 ∷ 2 ∷ 2 ∷ [])) (buckets (14 ∷ 2 ∷ 12 ∷ 4 ∷ 5 ∷ 22 ∷ []))
   -- C behind (6,1): (6,17),(3,23); backlog 17, delay 3
@@ -50,9 +50,9 @@ pub record Table : Type 0 where
   pub p8 :
       Behind (buckets (5 ∷ 7 ∷ [])) (port 5 2) (buckets (5 ∷ 17 ∷ []))
       × Delay (buckets (5 ∷ 7 ∷ [])) (port 5 2) 4
-      × ((at room : ℕ) (lent : List ℕ) → PartOutcome (passing (6 ∷ 7 ∷ []) (port 5 2)) at room lent lent 8 0)
-      × BacklogOutcome (6 ∷ 7 ∷ []) (port 5 2) 8 0
-      × DelayOutcome (6 ∷ 7 ∷ []) (port 5 2) 8 0
+      × ((at room : ℕ) (lent : List ℕ) → PartOutcome (passing (listOf (buckets (6 ∷ 7 ∷ []))) (port 5 2)) at room lent lent 8 0)
+      × BacklogOutcome (listOf (buckets (6 ∷ 7 ∷ []))) (port 5 2) 8 0
+      × DelayOutcome (listOf (buckets (6 ∷ 7 ∷ []))) (port 5 2) 8 0
   -- {(0,0)} with (5,2): backlog 0, delay 0. {(5,0)} with (10,3): backlog 15, delay 3
   pub p9 :
       Backlog (buckets (0 ∷ 0 ∷ [])) (port 5 2) 0
@@ -63,14 +63,14 @@ pub record Table : Type 0 where
   pub p10 : Residual C (port 6 1) (port 3 5)
   -- server (6,1) as a file: 12 00 00 60 00 01. Curve {(10,2)}: 11 00 00 02 80 00 00 00 00 80
   pub p11 :
-      (written (server (port 6 1)) ≡ 0x12 ∷ 0x00 ∷ 0x00 ∷ 0x60 ∷ 0x00 ∷ 0x01 ∷ [])
-      × (written (curve (buckets (10 ∷ 2 ∷ [])))
+      (written edition (server (port 6 1)) ≡ 0x12 ∷ 0x00 ∷ 0x00 ∷ 0x60 ∷ 0x00 ∷ 0x01 ∷ [])
+      × (written edition (curve (buckets (10 ∷ 2 ∷ [])))
       ≡ 0x11 ∷ 0x00 ∷ 0x00 ∷ 0x02 ∷ 0x80 ∷ 0x00 ∷ 0x00 ∷ 0x00 ∷ 0x00 ∷ 0x80 ∷ [])
   -- the route program: its input the curve C then servers (6,4) and (5,2), its output in full; and the input as bytes
   pub p12 :
-      Route (written (curve C) ++ written (server (port 6 4)) ++ written (server (port 5 2)))
+      Route (written edition (curve C) ++ written edition (server (port 6 4)) ++ written edition (server (port 5 2)))
       (bytes "hop 1 32 6\nhop 2 38 9\nroute 38 9\n")
-      × (written (curve C) ++ written (server (port 6 4)) ++ written (server (port 5 2))
+      × (written edition (curve C) ++ written edition (server (port 6 4)) ++ written edition (server (port 5 2))
       ≡ 0x11 ∷ 0x04 ∷ 0x00 ∷ 0x02 ∷ 0x80 ∷ 0x00 ∷ 0x00 ∷ 0x00 ∷ 0x00 ∷ 0x80 ∷ 0x00 ∷ 0x0c ∷ 0x00 ∷ 0x00 ∷ 0x00 ∷ 0x00 ∷ 0x50
       ∷ 0x12 ∷ 0x00 ∷ 0x00 ∷ 0x60 ∷ 0x00 ∷ 0x04
       ∷ 0x12 ∷ 0x00 ∷ 0x00 ∷ 0x50 ∷ 0x00 ∷ 0x02 ∷ [])

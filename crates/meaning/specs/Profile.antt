@@ -5,12 +5,12 @@ use mathlib.Core.Path.{_≡_}
 use mathlib.Core.Bool.{Bool, true, false}
 use mathlib.Core.Logic.{_⊎_, _≢_}
 use mathlib.Core.List.{List, [], _∷_, _++_, map, List·Memᴰ}
-use Prim.Native.Nat.{ℕ, zero, suc, _+_, _-_, _*_, _/_, _%_, _^_, _<_}
+use Prim.Native.Nat.{ℕ, zero, suc, _+_, _-_, _*_, _/_, _%_, _^_}
 use lib.Dec.{eqb}
 use lib.ListN.{length, take, drop, replicate}
-use Rattle.meaning.specs.Curve.{Bucket, buckets, flat, NormalForm}
-use Rattle.meaning.specs.Server.{Server}
-use Rattle.meaning.specs.Refusal.{HEADER, LENGTH, PAD, RANGE, FORM, ROOM, Lines, _when_, _or_, Clear, AllInRange, curveLines, over, Refused}
+use Rattle.meaning.specs.Curve.{Bucket, curveOf, NormalForm}
+use Rattle.meaning.specs.Server.{Server, noServer}
+use Rattle.meaning.specs.Refusal.{HEADER, LENGTH, PAD, RANGE, FORM, Lines, _when_, _or_, AllInRange, curveLines, Question, Outcome, PartOutcome, BytesQuestion, BytesOutcome}
 use Rattle.meaning.specs.ServerQuestions.{serverLines}
 
 infix 70 _bits_
@@ -70,21 +70,22 @@ bucketFields [] = []
 bucketFields (k ∷ f) = 20 bits k .rate ∷ 40 bits k .burst ∷ bucketFields f
 
 -- First 4 bits edition, next 4 bits kind. Curve: 6 bits count minus one; the buckets. Server: 20 bits rate, 20 bits latency.
-unfoldable pub fields : Profile → List Field
-fields (curve f) = 4 bits edition ∷ 4 bits curveKind ∷ 6 bits (length f - 1) ∷ bucketFields f
-fields (server s) = 4 bits edition ∷ 4 bits serverKind ∷ 20 bits s .rate ∷ 20 bits s .latency ∷ []
+unfoldable pub fields : ℕ → Profile → List Field
+fields ed (curve f) = 4 bits ed ∷ 4 bits curveKind ∷ 6 bits (length f - 1) ∷ bucketFields f
+fields ed (server s) = 4 bits ed ∷ 4 bits serverKind ∷ 20 bits s .rate ∷ 20 bits s .latency ∷ []
 
 -- The bits before padding.
-unfoldable pub profileBits : Profile → List ℕ
-profileBits p = packed (fields p)
+unfoldable pub profileBits : ℕ → Profile → List ℕ
+profileBits ed p = packed (fields ed p)
 
 -- The byte count that kind and count require: those bits, up to the byte's end.
-unfoldable pub byteCount : Profile → ℕ
-byteCount p = (length (profileBits p) + 7) / 8
+unfoldable pub byteCount : ℕ → Profile → ℕ
+byteCount ed p = (length (profileBits ed p) + 7) / 8
 
--- A profile as a file: its bits, and zero bits up to the byte's end.
-unfoldable pub written : Profile → List ℕ
-written p = bytesOf (byteCount p) (profileBits p ++ replicate (8 * byteCount p - length (profileBits p)) 0)
+-- A profile as a file of an edition: its bits, and zero bits up to the byte's end.
+unfoldable pub written : ℕ → Profile → List ℕ
+written ed p =
+    bytesOf (byteCount ed p) (profileBits ed p ++ replicate (8 * byteCount ed p - length (profileBits ed p)) 0)
 
 -- The number in a file's field, which begins at a bit and has so many bits.
 unfoldable pub field : List ℕ → ℕ → ℕ → ℕ
@@ -96,17 +97,29 @@ bucketsIn file at zero = []
 bucketsIn file at (suc n) =
     record { rate = field file at 20; burst = field file (at + 20) 40 } ∷ bucketsIn file (at + 60) n
 
+-- A file's edition.
+unfoldable pub editionOf : List ℕ → ℕ
+editionOf file = field file 0 4
+
+-- Its kind.
+unfoldable pub kindIn : List ℕ → ℕ
+kindIn file = field file 4 4
+
 -- The profile that a file holds: of kind 1 a curve, or else a server. Its fields stand one after the other.
 unfoldable pub profileOf : List ℕ → Profile
-profileOf file = ofKind (eqb (field file 4 4) curveKind)
+profileOf file = ofKind (eqb (kindIn file) curveKind)
   where
     ofKind : Bool → Profile
     ofKind true = curve (bucketsIn file 14 (field file 8 6 + 1))
     ofKind false = server (record { rate = field file 8 20; latency = field file 28 20 })
 
+-- The bytes that the profile at the start of a file takes.
+unfoldable pub bytesTaken : List ℕ → ℕ
+bytesTaken file = byteCount (editionOf file) (profileOf file)
+
 -- The padding bits: those after the profile's.
 unfoldable pub padding : List ℕ → List ℕ
-padding file = drop (length (profileBits (profileOf file))) (fileBits file)
+padding file = drop (length (profileBits (editionOf file) (profileOf file))) (fileBits file)
 
 -- A rate, burst or latency is outside its range; a curve is not in normal form.
 abbrev pub profileLines : Profile → Lines
@@ -117,8 +130,8 @@ profileLines (server s) = serverLines s
 -- a padding bit is 1; the lines of the profile that it holds.
 abbrev pub fileLines : List ℕ → Lines
 fileLines file =
-    HEADER when ((length file ≡ 0) ⊎ (field file 0 4 ≢ edition) ⊎ ((field file 4 4 ≢ curveKind) × (field file 4 4 ≢ serverKind)))
-    or LENGTH when ((length file ≢ byteCount (profileOf file)) ⊎ ((field file 4 4 ≡ curveKind) × (length file ≡ 1)))
+    HEADER when ((length file ≡ 0) ⊎ (editionOf file ≢ edition) ⊎ ((kindIn file ≢ curveKind) × (kindIn file ≢ serverKind)))
+    or LENGTH when ((length file ≢ bytesTaken file) ⊎ ((kindIn file ≡ curveKind) × (length file ≡ 1)))
     or PAD when List·Memᴰ 1 (padding file)
     or profileLines (profileOf file)
 
@@ -127,56 +140,45 @@ abbrev pub bucketsOf : Profile → List Bucket
 bucketsOf (curve f) = f
 bucketsOf (server s) = []
 
--- The two server numbers of a profile: 0 for a curve.
-abbrev pub numbersOf : Profile → Server
-numbersOf (curve f) = record { rate = 0; latency = 0 }
-numbersOf (server s) = s
+-- The server of a profile: none for a curve.
+abbrev pub serverIn : Profile → Server
+serverIn (curve f) = noServer
+serverIn (server s) = s
 
--- The reader answers the kind and the bucket count (0 for a server) or the two server numbers (0 for a curve): no line holds, and a curve stands in the lent list, which a server file leaves.
-pub record Read (lines : Lines) (p : Profile) (before after : List ℕ) (code kind count rate latency : ℕ) : Type 0 where
-  pub clear : Clear lines
-  pub code-is : code ≡ 0
-  pub kind-is : kind ≡ kindOf p
-  pub count-is : count ≡ length (bucketsOf p)
-  pub rate-is : rate ≡ numbersOf p .rate
-  pub latency-is : latency ≡ numbersOf p .latency
-  pub output : after ≡ over (flat (bucketsOf p)) before
+-- Reading asks for the curve that a file holds. (A server file has no bucket, so that nothing is written.)
+unfoldable pub reading : List ℕ → Question
+reading file = record { operands = fileLines file; Answer = λ f. f ≡ bucketsOf (profileOf file) }
 
--- The output list, of `room` numbers, is shorter than the curve.
-abbrev pub readLines : List ℕ → ℕ → Lines
-readLines file room = fileLines file or ROOM when (room < length (flat (bucketsOf (profileOf file))))
+-- What the reader answers beside the list.
+pub record Reading : Type 0 where
+  pub code : ℕ
+  pub kind : ℕ
+  pub count : ℕ
+  pub server : Server
 
--- What comes of reading: a refusal, with 0 for each count and figure, or the profile.
-pub data ReadOutcome (file before after : List ℕ) (code kind count rate latency : ℕ) : Type 0 where
-  refused :
-      Refused (readLines file (length before)) before after code kind → count ≡ 0 → rate ≡ 0 → latency ≡ 0
-      → ReadOutcome file before after code kind count rate latency
-  answered :
-      Read (readLines file (length before)) (profileOf file) before after code kind count rate latency
-      → ReadOutcome file before after code kind count rate latency
+-- The kind and the two server numbers (0 for a curve) of a file that is accepted; 0 for each of a file that is refused.
+pub record Told (file : List ℕ) (x : Reading) : Type 0 where
+  pub accepted : x .code ≡ 0 → (x .kind ≡ kindOf (profileOf file)) × (x .server ≡ serverIn (profileOf file))
+  pub refused : x .code ≢ 0 → (x .kind ≡ 0) × (x .server ≡ noServer)
 
--- A profile is written: the writer fills the start of a lent byte buffer, answers the byte count, and leaves the bytes beyond.
-pub record Wrote (lines : Lines) (p : Profile) (before after : List ℕ) (code count : ℕ) : Type 0 where
-  pub clear : Clear lines
-  pub code-is : code ≡ 0
-  pub count-is : count ≡ length (written p)
-  pub output : after ≡ over (written p) before
+-- What comes of reading, with the lent list before and after,
+pub record ReadOutcome (file before after : List ℕ) (x : Reading) : Type 0 where
+  pub list : Outcome (reading file) before after (x .code) (x .count)
+  pub told : Told file x
 
--- The lines of the operand; the buffer, of `room` bytes, is shorter than the file.
-abbrev pub writeLines : Lines → Profile → ℕ → Lines
-writeLines operand p room = operand or ROOM when (room < length (written p))
+-- or with a part of a larger table for the list.
+pub record ReadPartOutcome (file : List ℕ) (at room : ℕ) (before after : List ℕ) (x : Reading) : Type 0 where
+  pub list : PartOutcome (reading file) at room before after (x .code) (x .count)
+  pub told : Told file x
 
--- What comes of writing: a refusal or the file.
-pub data WriteOutcome (operand : Lines) (p : Profile) (before after : List ℕ) (code count : ℕ) : Type 0 where
-  refused :
-      Refused (writeLines operand p (length before)) before after code count → WriteOutcome operand p before after code count
-  answered :
-      Wrote (writeLines operand p (length before)) p before after code count → WriteOutcome operand p before after code count
+-- Writing asks for the file of a profile, whose lines are given.
+unfoldable pub writing : Lines → Profile → BytesQuestion
+writing operands p = record { operands = operands; Answer = λ file. file ≡ written edition p }
 
 -- A curve written as a file.
 abbrev pub WriteCurveOutcome : List ℕ → List ℕ → List ℕ → ℕ → ℕ → Type 0
-WriteCurveOutcome l = WriteOutcome (curveLines l) (curve (buckets l))
+WriteCurveOutcome l = BytesOutcome (writing (curveLines l) (curve (curveOf l)))
 
 -- A server written as a file.
 abbrev pub WriteServerOutcome : Server → List ℕ → List ℕ → ℕ → ℕ → Type 0
-WriteServerOutcome s = WriteOutcome (serverLines s) (server s)
+WriteServerOutcome s = BytesOutcome (writing (serverLines s) (server s))

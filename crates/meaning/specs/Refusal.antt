@@ -1,11 +1,11 @@
 -- The refusal table, and what an operation answers and leaves behind: one outcome for every input.
 -- Assumes nothing.
 use mathlib.Core.Path.{_≡_}
-use mathlib.Core.Logic.{_⊎_}
+use mathlib.Core.Logic.{_⊎_, _≢_}
 use mathlib.Core.List.{List, [], _++_}
 use Prim.Native.Nat.{ℕ, _%_, _^_, _≤_, _<_}
 use lib.ListN.{length, take, drop}
-use Rattle.meaning.specs.Curve.{Bucket, _∈_, buckets, flat, NormalForm}
+use Rattle.meaning.specs.Curve.{Bucket, _∈_, buckets, width, curveOf, listOf, NormalForm}
 
 infix 45 _when_
 infixl 40 _or_
@@ -26,6 +26,10 @@ number UNBOUNDED = 8
 number LARGE = 9
 number ROOM = 10
 
+-- The order in which they win: that of their numbers.
+abbrev pub rank : Refusal → ℕ
+rank r = number r
+
 -- Lines of the table, with what each says where it holds.
 abbrev pub Lines : Type 1
 Lines = Refusal → Type 0
@@ -41,7 +45,7 @@ abbrev pub _or_ : Lines → Lines → Lines
 -- The smallest number that applies wins, over all operands.
 pub record Wins (lines : Lines) (r : Refusal) : Type 0 where
   pub holds : lines r
-  pub smallest : (other : Refusal) → lines other → number r ≤ number other
+  pub smallest : (other : Refusal) → lines other → rank r ≤ rank other
 
 -- No line holds.
 abbrev pub Clear : Lines → Type 0
@@ -69,16 +73,24 @@ InRange = Within (2 ^ 20) (2 ^ 40)
 abbrev pub AllInRange : List Bucket → Type 0
 AllInRange = AllWithin (2 ^ 20) (2 ^ 40)
 
--- A raw list: empty or of odd length; over 64 buckets; a rate or burst outside its range.
-abbrev pub rawLines : List ℕ → Lines
-rawLines l =
-    LIST when ((length l ≡ 0) ⊎ (length l % 2 ≡ 1))
-    or COUNT when (64 < length (buckets l))
-    or RANGE when (AllInRange (buckets l) → ⊥)
+-- A list with so many numbers for each bucket is empty or does not come out even.
+abbrev pub Uneven : ℕ → List ℕ → Type 0
+Uneven numbers l = (length l ≡ 0) ⊎ (length l % numbers ≢ 0)
 
--- A curve: the same, or not in normal form.
+-- A list of buckets: empty or uneven; over 64 buckets; a rate or burst outside its range.
+abbrev pub listLines : ℕ → List ℕ → List Bucket → Lines
+listLines numbers l f =
+    LIST when (Uneven numbers l)
+    or COUNT when (64 < length f)
+    or RANGE when (AllInRange f → ⊥)
+
+-- A raw list has two numbers for each bucket.
+abbrev pub rawLines : List ℕ → Lines
+rawLines l = listLines 2 l (buckets l)
+
+-- A curve: the same of its own list, or not in normal form.
 abbrev pub curveLines : List ℕ → Lines
-curveLines l = rawLines l or FORM when (NormalForm (buckets l) → ⊥)
+curveLines l = listLines width l (curveOf l) or FORM when (NormalForm (curveOf l) → ⊥)
 
 -- The exact answer has over 64 buckets, or one of its rates or bursts is out of range.
 abbrev pub TooLarge : List Bucket → Type 0
@@ -88,7 +100,7 @@ TooLarge f = (64 < length f) ⊎ (AllInRange f → ⊥)
 abbrev pub answerLines : (List Bucket → Type 0) → ℕ → Lines
 answerLines Answer room =
     LARGE when ((f : List Bucket) × Answer f × TooLarge f)
-    or ROOM when ((f : List Bucket) × Answer f × (room < length (flat f)))
+    or ROOM when ((f : List Bucket) × Answer f × (room < length (listOf f)))
 
 -- A curve answer is written from the start of a lent list; numbers beyond it stay.
 unfoldable pub over : List ℕ → List ℕ → List ℕ
@@ -109,7 +121,7 @@ pub record Answered (lines : Lines) (Answer : List Bucket → Type 0) (before af
   pub right : Answer curve
   pub code-is : code ≡ 0
   pub count-is : count ≡ length curve
-  pub written : after ≡ over (flat curve) before
+  pub written : after ≡ over (listOf curve) before
 
 -- A question that a curve answers: the lines that its operands can break, and which curve is the answer.
 pub record Question : Type 1 where
@@ -139,3 +151,27 @@ pub record PartOutcome (ask : Question) (at room : ℕ) (before after : List ℕ
 pub data FigureOutcome (lines : Lines) (Figure : ℕ → Type 0) (code figure : ℕ) : Type 0 where
   refused : Refused lines [] [] code figure → FigureOutcome lines Figure code figure
   answered : Clear lines → code ≡ 0 → Figure figure → FigureOutcome lines Figure code figure
+
+-- A question that bytes answer: the lines that its operands can break, and which bytes are the answer.
+pub record BytesQuestion : Type 1 where
+  pub operands : Lines
+  pub Answer : List ℕ → Type 0
+
+-- Every line of it, for a buffer of `room` bytes: the buffer may be shorter than the answer.
+abbrev pub bytesLines : BytesQuestion → ℕ → Lines
+bytesLines ask room = ask .operands or ROOM when ((bytes : List ℕ) × ask .Answer bytes × (room < length bytes))
+
+-- Bytes are answered: no line holds, the code is 0, the count is theirs, and they stand at the start of the lent buffer; bytes
+-- beyond them stay.
+pub record Filled (ask : BytesQuestion) (before after : List ℕ) (code count : ℕ) : Type 0 where
+  pub bytes : List ℕ
+  pub clear : Clear (bytesLines ask (length before))
+  pub right : ask .Answer bytes
+  pub code-is : code ≡ 0
+  pub count-is : count ≡ length bytes
+  pub written : after ≡ over bytes before
+
+-- What comes of it, with the lent buffer before and after: a refusal or the bytes.
+pub data BytesOutcome (ask : BytesQuestion) (before after : List ℕ) (code count : ℕ) : Type 0 where
+  refused : Refused (bytesLines ask (length before)) before after code count → BytesOutcome ask before after code count
+  filled : Filled ask before after code count → BytesOutcome ask before after code count

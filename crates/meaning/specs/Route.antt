@@ -2,6 +2,7 @@
 -- Assumes nothing.
 use mathlib.Core.Path.{_≡_}
 use mathlib.Core.Logic.{_≢_}
+use mathlib.Core.Bool.{cond}
 use mathlib.Core.Option.{Option, none, some}
 use mathlib.Core.List.{List, [], _∷_, _++_}
 use Prim.Native.Nat.{ℕ, zero, suc, _+_, _/_, _%_, _<_}
@@ -9,23 +10,34 @@ use Prim.Native.Char.{code}
 use Prim.Native.String.{String}
 use lib.Dec.{ltb}
 use lib.ListN.{length, take, drop}
-use Rattle.meaning.specs.Curve.{Bucket, flat}
-use Rattle.meaning.specs.Server.{Server, pick, join, Behind, Backlog, Delay}
-use Rattle.meaning.specs.Refusal.{Refusal, HEADER, COUNT, LARGE, number, Lines, _when_, _or_, Wins, Clear, TooLarge}
+use Rattle.meaning.specs.Curve.{Bucket, listOf}
+use Rattle.meaning.specs.Server.{Server, join, Behind, Backlog, Delay}
+use Rattle.meaning.specs.Refusal.{Refusal, HEADER, COUNT, LARGE, number, Lines, _when_, _or_, Wins, Clear, TooLarge, BytesQuestion, BytesOutcome}
 use Rattle.meaning.specs.ServerQuestions.{serverLines, portLines, withLarge}
-use Rattle.meaning.specs.Profile.{curveKind, serverKind, byteCount, field, profileOf, fileLines, bucketsOf, numbersOf}
+use Rattle.meaning.specs.Profile.{Profile, curve, server, profileOf, bytesTaken, fileLines, bucketsOf, serverIn}
 
 -- Profiles stand back to back, each taking the bytes its header requires.
 unfoldable pub firstFile : List ℕ → List ℕ
-firstFile input = take (byteCount (profileOf input)) input
+firstFile input = take (bytesTaken input) input
 
 -- What stands behind it.
 unfoldable pub afterFirst : List ℕ → List ℕ
-afterFirst input = drop (byteCount (profileOf input)) input
+afterFirst input = drop (bytesTaken input) input
 
--- Where a kind is due: a curve where a server is due, or the reverse, is 1, and so is input that ends there; one cut short is 2.
-abbrev pub dueLines : ℕ → List ℕ → Lines
-dueLines kind input = HEADER when (field input 4 4 ≢ kind) or fileLines (firstFile input)
+-- A profile is a curve.
+abbrev pub IsCurve : Profile → Type 0
+IsCurve (curve f) = Unit {0}
+IsCurve (server s) = ⊥
+
+-- A profile is a server.
+abbrev pub IsServer : Profile → Type 0
+IsServer (curve f) = ⊥
+IsServer (server s) = Unit {0}
+
+-- Where a curve or a server is due: a curve where a server is due, or the reverse, is 1, and so is input that ends there; one
+-- cut short is 2.
+abbrev pub dueLines : (Profile → Type 0) → List ℕ → Lines
+dueLines Due input = HEADER when (Due (profileOf input) → ⊥) or fileLines (firstFile input)
 
 -- A server is joined with those before it.
 abbrev pub joinLines : Option Server → Server → Lines
@@ -40,11 +52,11 @@ joinedWith (some before) s = join before s
 -- At each server, reading, joining with those before it, backlog, delay and behind all count.
 abbrev pub hopLines : List Bucket → Option Server → List ℕ → Lines
 hopLines f before input =
-    dueLines serverKind input or portLines (flat f) s or joinLines before s
+    dueLines IsServer input or portLines (listOf f) s or joinLines before s
     or LARGE when ((g : List Bucket) × Behind f s g × TooLarge g)
   where
     s : Server
-    s = numbersOf (profileOf input)
+    s = serverIn (profileOf input)
 
 -- Backlog and delay: of a hop, or of the route.
 pub record Figures : Type 0 where
@@ -81,15 +93,15 @@ pub data Onward (first : List Bucket) : List Figures → Option Server → List 
   hop :
       {hops : List Figures} {before : Option Server} {f : List Bucket} {input : List ℕ} {report : Report} (here : Figures) (g : List Bucket)
       → length hops < 32 → (input ≡ [] → before ≡ none) → Clear (hopLines f before input)
-      → FiguresOf f (numbersOf (profileOf input)) here → Behind f (numbersOf (profileOf input)) g
-      → Onward first (hops ++ here ∷ []) (some (joinedWith before (numbersOf (profileOf input)))) g (afterFirst input) report
+      → FiguresOf f (serverIn (profileOf input)) here → Behind f (serverIn (profileOf input)) g
+      → Onward first (hops ++ here ∷ []) (some (joinedWith before (serverIn (profileOf input)))) g (afterFirst input) report
       → Onward first hops before f input report
 
 -- One curve profile, then 1 to 32 server profiles. The earliest profile refused is the one named.
 pub data Reported (input : List ℕ) (report : Report) : Type 0 where
-  no-curve : (r : Refusal) → Wins (dueLines curveKind input) r → report ≡ refusedAt r 1 → Reported input report
+  no-curve : (r : Refusal) → Wins (dueLines IsCurve input) r → report ≡ refusedAt r 1 → Reported input report
   from-curve :
-      Clear (dueLines curveKind input)
+      Clear (dueLines IsCurve input)
       → Onward (bucketsOf (profileOf input)) [] none (bucketsOf (profileOf input)) (afterFirst input) report
       → Reported input report
 
@@ -100,9 +112,8 @@ bytes (String._∷_ c s) = code c ∷ bytes s
 
 -- A number in decimal, `most` digits at most; no number of 64 bits has more than 20.
 unfoldable pub digits : ℕ → ℕ → List ℕ
-unfolding pick
 digits zero n = []
-digits (suc most) n = pick (ltb n 10) ((48 + n) ∷ []) (digits most (n / 10) ++ (48 + n % 10) ∷ [])
+digits (suc most) n = cond (ltb n 10) ((48 + n) ∷ []) (digits most (n / 10) ++ (48 + n % 10) ∷ [])
 
 -- Numbers, a space before each.
 unfoldable pub numbers : List ℕ → List ℕ
@@ -127,3 +138,11 @@ pub record Route (input output : List ℕ) : Type 0 where
   pub report : Report
   pub reported : Reported input report
   pub output-is : output ≡ text report
+
+-- A route asks for the program's output, and none of its operands is refused beside it: a refusal is a text too.
+unfoldable pub routing : List ℕ → BytesQuestion
+routing input = record { operands = λ _. ⊥; Answer = Route input }
+
+-- What comes of a route, with the lent buffer before and after.
+abbrev pub RouteOutcome : List ℕ → List ℕ → List ℕ → ℕ → ℕ → Type 0
+RouteOutcome input = BytesOutcome (routing input)

@@ -1,28 +1,32 @@
 -- Rate-latency servers, and what they do to a curve: service, join, behind, backlog, delay, residual, as min-plus has them at whole ticks.
 -- Assumes nothing.
 use mathlib.Core.Path.{_≡_}
-use mathlib.Core.Bool.{Bool, true, false}
+use mathlib.Core.Bool.{cond}
 use mathlib.Core.List.{List, [], _∷_, _++_}
 use Prim.Native.Nat.{ℕ, _+_, _-_, _*_, _≤_, min}
 use lib.Dec.{leb}
-use Rattle.meaning.specs.Curve.{Bucket, NormalOf, tickValue}
+use Rattle.meaning.specs.Curve.{Bucket, NormalOf, reads}
 
--- A server is (rate R, latency T).
-pub record Server : Type 0 where
+-- A rate-latency server is (rate R, latency T).
+pub record RateLatency : Type 0 where
   pub rate : ℕ
   pub latency : ℕ
+
+-- Every server is one.
+abbrev pub Server : Type 0
+Server = RateLatency
+
+-- The server of a refusal is (0, 0).
+abbrev pub noServer : Server
+noServer = record { rate = 0; latency = 0 }
 
 -- The instants that count: whole ticks.
 abbrev pub Instant : Type 0
 Instant = ℕ
 
 -- It serves R·(t-T) by tick t, and 0 up to tick T. (The difference of two numbers is 0 where it would be negative.)
-unfoldable pub served : Server → Instant → ℕ
+unfoldable pub served : RateLatency → Instant → ℕ
 served s t = s .rate * (t - s .latency)
-
--- What is read of a curve at an instant, also at 0: its value.
-unfoldable pub reads : List Bucket → Instant → ℕ
-reads f t = tickValue f t
 
 -- n is the greatest of a(u) minus b(u) over all instants u.
 pub record GreatestGap (a b : Instant → ℕ) (n : ℕ) : Type 0 where
@@ -36,7 +40,7 @@ pub record Smallest (P : ℕ → Type 0) (n : ℕ) : Type 0 where
   pub smallest : (m : ℕ) → P m → n ≤ m
 
 -- join: server with the smaller rate and the added latencies.
-unfoldable pub join : Server → Server → Server
+unfoldable pub join : RateLatency → RateLatency → RateLatency
 join s next = record { rate = min (s .rate) (next .rate); latency = s .latency + next .latency }
 
 -- M is the greatest of value(s) - R·s over whole s ≥ 0.
@@ -47,29 +51,24 @@ Excess f rate = GreatestGap (reads f) (λ u. rate * u)
 unfoldable pub later : ℕ → Bucket → Bucket
 later latency k = record { rate = k .rate; burst = k .burst + k .rate * latency }
 
--- One of two, by a test.
-unfoldable pub pick {ℓ} : {X : Type ℓ} → Bool → X → X → X
-pick true x y = x
-pick false x y = y
-
 -- (r, b + r·T) for each bucket with r ≤ R
-unfoldable pub slower : Server → List Bucket → List Bucket
-unfolding pick later
+unfoldable pub slower : RateLatency → List Bucket → List Bucket
+unfolding later
 slower s [] = []
-slower s (k ∷ f) = pick (leb (k .rate) (s .rate)) (later (s .latency) k ∷ slower s f) (slower s f)
+slower s (k ∷ f) = cond (leb (k .rate) (s .rate)) (later (s .latency) k ∷ slower s f) (slower s f)
 
 -- behind: normal form of (r, b + r·T) for each bucket with r ≤ R, and (R, B), where B = R·T + M.
-pub record Behind (f : List Bucket) (s : Server) (g : List Bucket) : Type 0 where
+pub record Behind (f : List Bucket) (s : RateLatency) (g : List Bucket) : Type 0 where
   pub m : ℕ
   pub excess : Excess f (s .rate) m
   pub normal : NormalOf (slower s f ++ record { rate = s .rate; burst = s .rate * s .latency + m } ∷ []) g
 
 -- backlog: greatest over whole u ≥ 0 of value(u) minus what the server serves by u.
-abbrev pub Backlog : List Bucket → Server → ℕ → Type 0
+abbrev pub Backlog : List Bucket → RateLatency → ℕ → Type 0
 Backlog f s = GreatestGap (reads f) (served s)
 
 -- delay: smallest whole d ≥ 0 such that value(t) is at most what is served by t+d, for every whole t ≥ 0.
-abbrev pub Delay : List Bucket → Server → ℕ → Type 0
+abbrev pub Delay : List Bucket → RateLatency → ℕ → Type 0
 Delay f s = Smallest (λ d. (t : Instant) → reads f t ≤ served s (t + d))
 
 -- The last bucket of a curve. (No curve is empty; an empty list has (0, 0).)
@@ -79,7 +78,7 @@ last (k ∷ []) = k
 last (k ∷ j ∷ f) = last (j ∷ f)
 
 -- residual: with the cross curve's last bucket (r, b), rate R-r, latency T + b/R, the quotient rounded up.
-pub record Residual (cross : List Bucket) (s left : Server) : Type 0 where
+pub record Residual (cross : List Bucket) (s left : RateLatency) : Type 0 where
   pub rate-is : left .rate ≡ s .rate - last cross .rate
   pub quotient : ℕ
   pub rounded-up : Smallest (λ x. last cross .burst ≤ s .rate * x) quotient

@@ -3,9 +3,9 @@
 use mathlib.Core.Path.{_≡_}
 use mathlib.Core.List.{List, []}
 use Prim.Native.Nat.{ℕ, _^_, _≤_, _<_}
-use Rattle.meaning.specs.Curve.{buckets}
+use Rattle.meaning.specs.Curve.{curveOf}
 use Rattle.meaning.specs.Refusal.{RANGE, UNBOUNDED, LARGE, Lines, _when_, _or_, Clear, Refused, curveLines, Question, FigureOutcome}
-use Rattle.meaning.specs.Server.{Server, join, Behind, Backlog, Delay, Residual, last}
+use Rattle.meaning.specs.Server.{Server, noServer, join, Behind, Backlog, Delay, Residual, last}
 
 -- R from 1 to 2^20-1, T from 0 to 2^20-1.
 pub record ServerInRange (s : Server) : Type 0 where
@@ -19,28 +19,28 @@ serverLines s = RANGE when (ServerInRange s → ⊥)
 
 -- A curve and a server; the last rate above R.
 abbrev pub portLines : List ℕ → Server → Lines
-portLines f s = curveLines f or serverLines s or UNBOUNDED when (s .rate < last (buckets f) .rate)
+portLines f s = curveLines f or serverLines s or UNBOUNDED when (s .rate < last (curveOf f) .rate)
 
 -- behind: the curve behind a server.
 unfoldable pub passing : List ℕ → Server → Question
-passing f s = record { operands = portLines f s; Answer = Behind (buckets f) s }
+passing f s = record { operands = portLines f s; Answer = Behind (curveOf f) s }
 
 -- backlog of a curve and a server.
 unfoldable pub BacklogOutcome : List ℕ → Server → ℕ → ℕ → Type 0
-BacklogOutcome f s = FigureOutcome (portLines f s) (Backlog (buckets f) s)
+BacklogOutcome f s = FigureOutcome (portLines f s) (Backlog (curveOf f) s)
 
 -- delay of a curve and a server.
 unfoldable pub DelayOutcome : List ℕ → Server → ℕ → ℕ → Type 0
-DelayOutcome f s = FigureOutcome (portLines f s) (Delay (buckets f) s)
+DelayOutcome f s = FigureOutcome (portLines f s) (Delay (curveOf f) s)
 
 -- The lines of a question that a server answers: LARGE where the exact answer is out of range.
 abbrev pub withLarge : Lines → (Server → Type 0) → Lines
 withLarge operands Answer = operands or LARGE when ((exact : Server) × Answer exact × (ServerInRange exact → ⊥))
 
--- What comes of it: a refusal, with the server (0, 0), or code 0 and the server.
+-- What comes of it: a refusal, with no server, or code 0 and the server.
 pub data ServerOutcome (operands : Lines) (Answer : Server → Type 0) (code : ℕ) (s : Server) : Type 0 where
   refused :
-      Refused (withLarge operands Answer) [] [] code (s .rate) → s .latency ≡ 0 → ServerOutcome operands Answer code s
+      Refused (withLarge operands Answer) [] [] code 0 → s ≡ noServer → ServerOutcome operands Answer code s
   answered : Clear (withLarge operands Answer) → code ≡ 0 → Answer s → ServerOutcome operands Answer code s
 
 -- join: a server joins the next one and gives back the joined server.
@@ -50,5 +50,5 @@ JoinOutcome s next = ServerOutcome (serverLines s or serverLines next) (λ joine
 -- residual: the server left beside a cross curve. It is UNBOUNDED where the last rate is R or more.
 unfoldable pub ResidualOutcome : List ℕ → Server → ℕ → Server → Type 0
 ResidualOutcome cross s =
-    ServerOutcome (curveLines cross or serverLines s or UNBOUNDED when (s .rate ≤ last (buckets cross) .rate))
-    (Residual (buckets cross) s)
+    ServerOutcome (curveLines cross or serverLines s or UNBOUNDED when (s .rate ≤ last (curveOf cross) .rate))
+    (Residual (curveOf cross) s)

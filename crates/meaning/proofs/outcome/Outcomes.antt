@@ -4,7 +4,7 @@
 -- Assumes nothing.
 use mathlib.Core.Path.{_≡_, refl, sym, _∙_, ap, subst, subst₂}
 use mathlib.Core.Logic.{inl, inr, ⊎-elim, ⊎-swap}
-use mathlib.Core.Bool.{Bool, true, false}
+use mathlib.Core.Bool.{Bool, true, false, cond}
 use mathlib.Core.List.{List, _++_, append-assoc, append-nil}
 use Prim.Native.Nat.{ℕ, _≤_, _<_, min}
 use native.Mathlib.Nat.{le-trans, le-of-eq, le-antisymm, le-refl, min-eq-left, min-eq-right, le-of-lt}
@@ -13,10 +13,9 @@ use lib.ListN.{length, take, drop, take-append-drop}
 use lib.Seq.{take-length, drop-length}
 use lib.Dec.{eqb, lit≤}
 use borrow.Author.Tests.{eqb-true, eqb-false}
-use Rattle.meaning.specs.Curve.{Bucket, flat}
+use Rattle.meaning.specs.Curve.{Bucket, listOf}
 use Rattle.meaning.specs.Refusal.{Refusal, HEADER, LENGTH, PAD, LIST, COUNT, RANGE, FORM, UNBOUNDED, LARGE, ROOM, number, Lines, _when_, _or_, Wins, Clear, Verdict, accepted, rejected, TooLarge, answerLines, over, Refused, Answered, Question, allLines, Outcome, part, PartOutcome, FigureOutcome}
 use Rattle.meaning.specs.Computed.{earlier}
-use Rattle.meaning.specs.Server.{pick}
 use Rattle.meaning.proofs.Order.{le-or-lt}
 
 -- every refusal has a number
@@ -80,7 +79,7 @@ module _ {lines : Lines} {before : List ℕ} where
       record {
         code-same = v .code-is ∙ sym (w .code-is);
         figure-same = v .count-is ∙ ap length e ∙ sym (w .count-is);
-        after-same = v .written ∙ ap (λ (f : List Bucket). over (flat f) before) e ∙ sym (w .written);
+        after-same = v .written ∙ ap (λ (f : List Bucket). over (listOf f) before) e ∙ sym (w .written);
       }
 
 -- No other outcome: the code, the count and the full contents of the lent list are fixed.
@@ -198,7 +197,7 @@ module _ {a b : Lines} where
 
   -- The code of both together is the smaller one, where 0 is none.
   pub verdict-or : {x y : ℕ} → Verdict a x → Verdict b y → Verdict (a or b) (earlier x y)
-  unfolding earlier pick
+  unfolding earlier
   verdict-or {x} {y} v w = by-first (eqb x 0) refl
     where
       by-size : 1 ≤ x → 1 ≤ y → Verdict (a or b) (min x y)
@@ -208,11 +207,11 @@ module _ {a b : Lines} where
             | inr h ↦ rw (min-eq-right (le-of-lt h)) (swapped (smaller sy (le-of-lt h) w v))
           ]
 
-      by-second : (t : Bool) → eqb y 0 ≡ t → 1 ≤ x → Verdict (a or b) (pick t x (min x y))
+      by-second : (t : Bool) → eqb y 0 ≡ t → 1 ≤ x → Verdict (a or b) (cond t x (min x y))
       by-second true e sx = swapped (refused-then (subst (Verdict b) (eqb-true y 0 e) w) v)
       by-second false e sx = by-size sx (omega (arith, eqb-false y 0 e))
 
-      by-first : (t : Bool) → eqb x 0 ≡ t → Verdict (a or b) (pick t y (pick (eqb y 0) x (min x y)))
+      by-first : (t : Bool) → eqb x 0 ≡ t → Verdict (a or b) (cond t y (cond (eqb y 0) x (min x y)))
       by-first true e = refused-then (subst (Verdict a) (eqb-true x 0 e) v) w
       by-first false e = by-second (eqb y 0) refl (omega (arith, eqb-false x 0 e))
 
@@ -247,7 +246,7 @@ module _ (ask : Question) (before : List ℕ) where
       only-fits h = fits (subst TooLarge (one (h .0) f (h .1) right) (h .2))
 
       -- It is not, and the list has no room for it.
-      pub no-room : length before < length (flat f) → Outcome ask before before 10 0
+      pub no-room : length before < length (listOf f) → Outcome ask before before 10 0
       unfolding number
       no-room short =
           Outcome.refused
@@ -255,7 +254,7 @@ module _ (ask : Question) (before : List ℕ) where
           (refused-then (accepted clear refl) (refused-then (line-miss only-fits) (line-hit ROOM (f, right, short)))))
 
       -- It is written.
-      pub written-out : length (flat f) ≤ length before → Outcome ask before (over (flat f) before) 0 (length f)
+      pub written-out : length (listOf f) ≤ length before → Outcome ask before (over (listOf f) before) 0 (length f)
       written-out long =
           Outcome.answered
           (record {
@@ -267,9 +266,9 @@ module _ (ask : Question) (before : List ℕ) where
             written = refl;
           })
         where
-          has-room : (g : List Bucket) × ask .Answer g × (length before < length (flat g)) → ⊥
+          has-room : (g : List Bucket) × ask .Answer g × (length before < length (listOf g)) → ⊥
           has-room h =
-              let e : length (flat (h .0)) ≡ length (flat f) = ap (λ (g : List Bucket). length (flat g)) (one (h .0) f (h .1) right) in
+              let e : length (listOf (h .0)) ≡ length (listOf f) = ap (λ (g : List Bucket). length (listOf g)) (one (h .0) f (h .1) right) in
               omega (arith, h .2)
 
 -- ---- One question in place of another, and the whole list as a part of itself.

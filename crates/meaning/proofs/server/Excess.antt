@@ -2,6 +2,7 @@
 -- at most R that is tick 0. Otherwise it is the whole tick up to the crossing with the first bucket of rate at most R, or the
 -- tick after: up to that tick the value is had by a bucket of rate above R, and from the tick after on by one of rate at most R.
 -- Assumes nothing.
+use mathlib.Core.Bool.{cond}
 use mathlib.Core.Path.{_≡_, refl, sym, _∙_}
 use mathlib.Core.Logic.{_⊎_, inl, inr}
 use mathlib.Core.List.{List, [], _∷_, _++_, List·Memᴰ·head, List·Memᴰ·tail, List·Memᴰ·eq-of-singleton, Memᴰ·append-right}
@@ -11,15 +12,14 @@ use native.Mathlib.Omega.{arith}
 use lib.ListN.{length, take, getD, length-append}
 use lib.Seq.{append-snoc, take-at, getD-at}
 use borrow.Author.Tests.{le-leb, lt-leb}
-use Rattle.meaning.specs.Curve.{Bucket, _∈_, bucketAt, Falling, Useful, NormalForm, Crossing}
-use Rattle.meaning.specs.Server.{reads, GreatestGap, Excess, last}
+use Rattle.meaning.specs.Curve.{Bucket, _∈_, bucketAt, Falling, Useful, NormalForm, Crossing, reads}
+use Rattle.meaning.specs.Server.{GreatestGap, Excess, last}
 use Rattle.meaning.specs.Computed.{excessAt, excessFrom, excess}
-use Rattle.meaning.specs.Server.{pick}
 use Rattle.meaning.proofs.Order.{le-or-lt, not-above, crosswise}
 use Rattle.meaning.proofs.Lists.{cons-each, append-each}
-use Rattle.meaning.proofs.Value.{same-rate, same-bucket-at, value-least, value-unique, Reached, value-reached}
-use Rattle.meaning.proofs.Joining.{last-slowest}
-use Rattle.meaning.proofs.Neighbours.{Meet, meet, meet-at, before-if-below, after-if-below, below-rises}
+use Rattle.meaning.proofs.curve.Value.{same-rate, same-bucket-at, value-least, value-unique, Reached, value-reached}
+use Rattle.meaning.proofs.server.Joining.{last-slowest}
+use Rattle.meaning.proofs.curve.Neighbours.{Meet, meet, meet-at, before-if-below, after-if-below, below-rises}
 
 -- the greatest gap is one number
 pub gap-unique : {a b : ℕ → ℕ} {m n : ℕ} → GreatestGap a b m → GreatestGap a b n → m ≡ n
@@ -249,7 +249,7 @@ find-turn :
     {f : List Bucket} (rate : ℕ) (passed : List Bucket) (before : Bucket) (rest : List Bucket) → f ≡ passed ++ before ∷ rest
     → ((j : Bucket) → j ∈ (passed ++ before ∷ []) → rate < j .rate) → last (before ∷ rest) .rate ≤ rate
     → (w : Turn f rate) × (excessFrom f rate before rest ≡ excessAt f rate (tick w))
-unfolding last excessFrom pick
+unfolding last excessFrom
 find-turn rate passed before [] e steep slow =
     absurd (omega (arith, steep before (Memᴰ·append-right passed (List·Memᴰ·head refl))))
 find-turn rate passed before (k ∷ g) e steep slow =
@@ -300,7 +300,7 @@ data Kind (rate : ℕ) : List Bucket → Type 0 where
   turns-at : {f : List Bucket} (w : Turn f rate) → excess f rate ≡ excessAt f rate (tick w) → Kind rate f
 
 kind : (f : List Bucket) (rate : ℕ) → 1 ≤ length f → last f .rate ≤ rate → Kind rate f
-unfolding excess pick
+unfolding excess
 kind [] rate some slow = absurd (omega arith)
 kind (k ∷ g) rate some slow =
     elim (le-or-lt (k .rate) rate) [
@@ -378,7 +378,6 @@ module _ {f : List Bucket} {rate : ℕ} (w : Turn f rate) where
 -- together they say where the crossing is
 at-turn :
     {f : List Bucket} {rate m : ℕ} (n : NormalForm f) (w : Turn f rate) → excessAt f rate (tick w) ≡ m → AtCrossing f rate m
-unfolding Crossing
 at-turn {f} {rate} {m} n w e =
     record {
       k = length (w .passed) + 2;
@@ -390,9 +389,15 @@ at-turn {f} {rate} {m} n w e =
       q = fall w;
       q-positive = omega (arith, turns n w);
       crossing =
-          same-bucket-at _ _ (before-at w)
-          ∙ meet-at (crosses n w) (rise w) (fall w) .1 (omega arith)
-          ∙ sym (same-bucket-at _ _ (first-at w));
+          record {
+            from-second = omega arith;
+            inside = enough w;
+            q-positive = omega (arith, turns n w);
+            meets =
+                same-bucket-at _ _ (before-at w)
+                ∙ meet-at (crosses n w) (rise w) (fall w) .1 (omega arith)
+                ∙ sym (same-bucket-at _ _ (first-at w));
+          };
       reached = rw (← e) (turn-reached n w);
     }
 

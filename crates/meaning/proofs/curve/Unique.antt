@@ -11,8 +11,8 @@ use native.Mathlib.Nat.{le-of-eq, le-of-lt, le-trans, le-antisymm, mul-pos, mul-
 use native.Mathlib.Omega.{arith}
 use lib.ListN.{length}
 use Rattle.meaning.specs.Curve.{Bucket, _∈_, bucketAt, valueAt, Falling, Useful, NormalForm, NormalOf}
-use Rattle.meaning.proofs.Value.{Reached, same-rate, value-least, value-reached, value-unique}
-use Rattle.meaning.proofs.Lowest.{least-of-others, rates-below, bucket-later, meet-same}
+use Rattle.meaning.proofs.curve.Value.{Reached, same-rate, value-least, value-reached, value-unique}
+use Rattle.meaning.proofs.curve.Lowest.{least-of-others, rates-below, bucket-later, meet-same}
 
 -- of two lists with falling rates, each holding the other's first bucket, the first buckets are the same
 falling-same-first :

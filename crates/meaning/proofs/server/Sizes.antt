@@ -4,21 +4,21 @@ use mathlib.Core.List.{List}
 use Prim.Native.Nat.{ℕ, _+_, _-_, _*_, _^_, _≤_, _<_}
 use native.Mathlib.Nat.{mul-le-mul, mul-le-mul-left, mul-le-mul-right}
 use native.Mathlib.Omega.{arith}
-use Rattle.meaning.specs.Curve.{Bucket, _∈_, bucketAt, tickValue}
-use Rattle.meaning.specs.Server.{Server, served, reads, Backlog, Delay}
+use Rattle.meaning.specs.Curve.{Bucket, _∈_, bucketAt, reads}
+use Rattle.meaning.specs.Server.{RateLatency, served, Backlog, Delay}
 use Rattle.meaning.specs.Refusal.{InRange}
 use Rattle.meaning.specs.ServerQuestions.{ServerInRange}
-use Rattle.meaning.proofs.Value.{value-least}
-use Rattle.meaning.proofs.Joining.{served-past}
+use Rattle.meaning.proofs.curve.Value.{value-least}
+use Rattle.meaning.proofs.server.Joining.{served-past}
 
 -- the value at a tick below 2^40
-pub value-fits : (f : List Bucket) {k : Bucket} (t : ℕ) → k ∈ f → InRange k → t < 2 ^ 40 → tickValue f t < 2 ^ 61
-unfolding bucketAt
+pub value-fits : (f : List Bucket) {k : Bucket} (t : ℕ) → k ∈ f → InRange k → t < 2 ^ 40 → reads f t < 2 ^ 61
+unfolding bucketAt reads
 value-fits f {k} t inside ranged early =
     omega (arith, value-least f t 1 inside, ranged .rate-fits, ranged .burst-fits, mul-le-mul {n₁ = k .rate} {m₁ = t} {n₂ = 2 ^ 20} {m₂ = 2 ^ 40} (omega (arith, ranged .rate-fits)) (omega arith))
 
 -- A bucket of the curve that is no faster than the server bounds both figures.
-module _ (f : List Bucket) (s : Server) {k : Bucket} (inside : k ∈ f) (slow : k .rate ≤ s .rate) (some : 1 ≤ s .rate) where
+module _ (f : List Bucket) (s : RateLatency) {k : Bucket} (inside : k ∈ f) (slow : k .rate ≤ s .rate) (some : 1 ≤ s .rate) where
   -- the bucket rises no faster than what is served past the latency
   rises : (u y : ℕ) → u ≤ s .latency + y → k .rate * u ≤ k .rate * s .latency + s .rate * y
   rises u y h = omega (arith, mul-le-mul-left (k .rate) h, mul-le-mul-right y slow)
@@ -43,7 +43,7 @@ module _ (f : List Bucket) (s : Server) {k : Bucket} (inside : k ∈ f) (slow : 
       ))
 
 -- So both fit 64 bits, for a curve and a server in range that are not UNBOUNDED.
-module _ (f : List Bucket) (s : Server) {k : Bucket} (inside : k ∈ f) (ranged : InRange k) (in-range : ServerInRange s) (slow : k .rate ≤ s .rate) where
+module _ (f : List Bucket) (s : RateLatency) {k : Bucket} (inside : k ∈ f) (ranged : InRange k) (in-range : ServerInRange s) (slow : k .rate ≤ s .rate) where
   pub backlog-fits : {n : ℕ} → Backlog f s n → n < 2 ^ 41
   backlog-fits b =
       omega (

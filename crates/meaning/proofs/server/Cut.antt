@@ -3,7 +3,7 @@
 -- that tick, and the lower of the two from there on.
 -- Assumes nothing.
 use mathlib.Core.Path.{_≡_, refl, sym, _∙_, ap}
-use mathlib.Core.Bool.{Bool, true, false}
+use mathlib.Core.Bool.{Bool, true, false, cond}
 use mathlib.Core.Logic.{inl, inr}
 use mathlib.Core.List.{List, [], _∷_, _++_, List·Memᴰ·head, List·Memᴰ·tail, List·Memᴰ·cases-cons, List·Memᴰ·append-cases, List·Memᴰ·eq-of-singleton, Memᴰ·append-left, Memᴰ·append-right}
 use Prim.Native.Nat.{ℕ, _*_, _+_, _≤_, _<_, min}
@@ -12,10 +12,10 @@ use native.Mathlib.Omega.{arith}
 use lib.ListN.{length}
 use lib.Dec.{leb}
 use borrow.Author.Tests.{leb-true, le-leb}
-use Rattle.meaning.specs.Curve.{Bucket, _∈_, bucketAt, valueAt}
-use Rattle.meaning.specs.Server.{Server, later, pick, slower, reads, Behind}
+use Rattle.meaning.specs.Curve.{Bucket, _∈_, bucketAt, valueAt, reads}
+use Rattle.meaning.specs.Server.{RateLatency, later, slower, Behind}
 use Rattle.meaning.proofs.Order.{le-or-lt, crosswise}
-use Rattle.meaning.proofs.Value.{some, same-bucket-at, value-least, value-reached, below-value, value-unique}
+use Rattle.meaning.proofs.curve.Value.{some, same-bucket-at, value-least, value-reached, below-value, value-unique}
 
 -- ---- The raw list of behind.
 
@@ -29,26 +29,26 @@ same-rate-below : {k j : Bucket} {n : ℕ} → k ≡ j → k .rate ≤ n → j .
 same-rate-below e h = rw (← e) h
 
 -- `slower` holds each bucket that is slow enough, seen a latency later
-pub slower-has : (s : Server) {f : List Bucket} {k : Bucket} → k ∈ f → k .rate ≤ s .rate → later (s .latency) k ∈ slower s f
-unfolding slower pick
+pub slower-has : (s : RateLatency) {f : List Bucket} {k : Bucket} → k ∈ f → k .rate ≤ s .rate → later (s .latency) k ∈ slower s f
+unfolding slower
 slower-has s (List·Memᴰ·head {x = j} e) h =
     rw (le-leb (j .rate) (s .rate) (same-rate-below e h)) (List·Memᴰ·head (ap (later (s .latency)) e))
 slower-has s {k = k} (List·Memᴰ·tail {x = j} {xs = f} m) h = wanted-or-not (leb (j .rate) (s .rate)) (slower-has s m h)
   where
-    wanted-or-not : (b : Bool) → later (s .latency) k ∈ slower s f → later (s .latency) k ∈ pick b (later (s .latency) j ∷ slower s f) (slower s f)
+    wanted-or-not : (b : Bool) → later (s .latency) k ∈ slower s f → later (s .latency) k ∈ cond b (later (s .latency) j ∷ slower s f) (slower s f)
     wanted-or-not true n = List·Memᴰ·tail n
     wanted-or-not false n = n
 
 -- A bucket seen a latency later, of a list's slow enough ones.
-pub record Slowed (s : Server) (f : List Bucket) (k : Bucket) : Type 0 where
+pub record Slowed (s : RateLatency) (f : List Bucket) (k : Bucket) : Type 0 where
   pub bucket : Bucket
   pub inside : bucket ∈ f
   pub slow : bucket .rate ≤ s .rate
   pub is-later : k ≡ later (s .latency) bucket
 
 -- and nothing else
-pub slower-from : (s : Server) (f : List Bucket) {k : Bucket} → k ∈ slower s f → Slowed s f k
-unfolding slower pick
+pub slower-from : (s : RateLatency) (f : List Bucket) {k : Bucket} → k ∈ slower s f → Slowed s f k
+unfolding slower
 slower-from s [] m = elim m [ ]
 slower-from s (j ∷ f) {k} m = wanted-or-not (leb (j .rate) (s .rate)) refl (λ n. further (slower-from s f n)) m
   where
@@ -57,7 +57,7 @@ slower-from s (j ∷ f) {k} m = wanted-or-not (leb (j .rate) (s .rate)) refl (λ
 
     wanted-or-not :
         (b : Bool) → leb (j .rate) (s .rate) ≡ b → (k ∈ slower s f → Slowed s (j ∷ f) k)
-        → k ∈ pick b (later (s .latency) j ∷ slower s f) (slower s f) → Slowed s (j ∷ f) k
+        → k ∈ cond b (later (s .latency) j ∷ slower s f) (slower s f) → Slowed s (j ∷ f) k
     wanted-or-not true t rest n =
         elim (List·Memᴰ·cases-cons n) [
           | inl e ↦ record { bucket = j; inside = List·Memᴰ·head refl; slow = leb-true _ _ t; is-later = e }
@@ -66,26 +66,26 @@ slower-from s (j ∷ f) {k} m = wanted-or-not (leb (j .rate) (s .rate)) refl (λ
     wanted-or-not false t rest n = rest n
 
 -- (R, B), B = R·T + M.
-abbrev pub lineBucket : Server → ℕ → Bucket
+abbrev pub lineBucket : RateLatency → ℕ → Bucket
 lineBucket s m = record { rate = s .rate; burst = s .rate * s .latency + m }
 
 -- The raw list of behind.
-abbrev pub cutList : List Bucket → Server → ℕ → List Bucket
+abbrev pub cutList : List Bucket → RateLatency → ℕ → List Bucket
 cutList f s m = slower s f ++ lineBucket s m ∷ []
 
 -- it has a bucket, (R, B) at least
-pub cut-filled : (f : List Bucket) (s : Server) (m : ℕ) → 1 ≤ length (cutList f s m)
+pub cut-filled : (f : List Bucket) (s : RateLatency) (m : ℕ) → 1 ≤ length (cutList f s m)
 cut-filled f s m = some (Memᴰ·append-right (slower s f) (List·Memᴰ·head refl))
 
 -- (R, B) has, a latency before, the line's value
-line-at : (s : Server) (m p q : ℕ) → bucketAt (lineBucket s m) p q ≡ s .rate * (p + s .latency * q) + m * q
+line-at : (s : RateLatency) (m p q : ℕ) → bucketAt (lineBucket s m) p q ≡ s .rate * (p + s .latency * q) + m * q
 unfolding bucketAt
 line-at s m p q = omega arith
 
 -- ---- The cut.
 
 -- A server with no latency.
-abbrev atOnce : ℕ → Server
+abbrev atOnce : ℕ → RateLatency
 atOnce rate = record { rate = rate; latency = 0 }
 
 -- The cut at p/q, times q: the least of rate·p + m·q and of the values of the buckets with rates up to `rate`. That is the value
@@ -123,7 +123,7 @@ module _ (rate m p q : ℕ) where
       ]
 
 -- the raw list's value is the cut's, a latency later
-pub cut-list : (f : List Bucket) (s : Server) (m p q : ℕ) → valueAt (cutList f s m) p q ≡ cutAt f (s .rate) m (p + s .latency * q) q
+pub cut-list : (f : List Bucket) (s : RateLatency) (m p q : ℕ) → valueAt (cutList f s m) p q ≡ cutAt f (s .rate) m (p + s .latency * q) q
 cut-list f s m p q =
     elim (cut-reached (s .rate) m (p + s .latency * q) q f) [
       | by-line e ↦
@@ -145,7 +145,7 @@ cut-list f s m p q =
 
 -- a curve behind a server is the cut, a latency later
 pub behind-cut :
-    {f g : List Bucket} {s : Server} (b : Behind f s g) (p q : ℕ) → 0 < q
+    {f g : List Bucket} {s : RateLatency} (b : Behind f s g) (p q : ℕ) → 0 < q
     → valueAt g p q ≡ cutAt f (s .rate) (b .m) (p + s .latency * q) q
 behind-cut {f} {g} {s} b p q h = sym (b .normal .same p q h) ∙ cut-list f s (b .m) p q
 

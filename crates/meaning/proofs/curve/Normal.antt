@@ -12,9 +12,9 @@ use Rattle.meaning.specs.Curve.{Bucket, _∈_, bucketAt, Falling, Useful
 use Rattle.meaning.specs.Computed.{isUseful, insert, chosen, normal}
 use Rattle.meaning.proofs.Order.{not-above}
 use Rattle.meaning.proofs.Lists.{cons-each}
-use Rattle.meaning.proofs.Value.{same-rate, some, value-least, value-unique}
-use Rattle.meaning.proofs.Lowest.{lowest, same-bucket, useful-fewer}
-use Rattle.meaning.proofs.Usefulness.{pick-holds, picked, useful-sound, useful-complete}
+use Rattle.meaning.proofs.curve.Value.{same-rate, some, value-least, value-unique}
+use Rattle.meaning.proofs.curve.Lowest.{lowest, same-bucket, useful-fewer}
+use Rattle.meaning.proofs.curve.Usefulness.{cond-holds, picked, useful-sound, useful-complete}
 
 -- f holds those buckets of `among` that are useful in raw, each once, by falling rates.
 pub record ChosenAmong (raw among f : List Bucket) : Type 0 where
@@ -151,7 +151,7 @@ chosen-among raw [] within =
     record { falling = tt; from = λ i m. m; useful = λ i m. absurd (List·Memᴰ·not-nil m); all = λ i m u. m }
 chosen-among raw (k ∷ among) within =
     let c = chosen-among raw among (λ j m. within j (List·Memᴰ·tail m)) in
-    pick-holds (ChosenAmong raw (k ∷ among)) (isUseful raw k) (λ t. chosen-more k c within (useful-sound raw k t))
+    cond-holds (ChosenAmong raw (k ∷ among)) (isUseful raw k) (λ t. chosen-more k c within (useful-sound raw k t))
     (λ t. chosen-still k c (useful-complete raw k t))
 
 -- every list that is not empty has a normal form, and it can be worked out

@@ -11,8 +11,8 @@ use lib.ListN.{length, length-append, length-map}
 use Rattle.meaning.specs.Curve.{Bucket, _∈_, bucketAt, valueAt, NormalOf, Lower, added, pairs, Sum}
 use Rattle.meaning.proofs.Order.{min-is}
 use Rattle.meaning.proofs.Lists.{append-each}
-use Rattle.meaning.proofs.Value.{same-bucket-at, value-least, value-reached, value-unique, below-value}
-use Rattle.meaning.proofs.Lowest.{same-bucket}
+use Rattle.meaning.proofs.curve.Value.{same-bucket-at, value-least, value-reached, value-unique, below-value}
+use Rattle.meaning.proofs.curve.Lowest.{same-bucket}
 
 -- a list that has the buckets of another, if that has any, is nowhere above it
 pub more-not-above :

@@ -10,19 +10,19 @@ use Prim.Native.Nat.{ℕ, _+_, _-_, _≤_, _<_}
 use native.Mathlib.Decide.{ℕ-discrete}
 use native.Mathlib.Omega.{arith}
 use lib.ListN.{length, getD, length-append}
-use Rattle.meaning.specs.Curve.{Bucket, flat, tickValue}
-use Rattle.meaning.specs.Server.{Server, reads, join, Behind, Delay}
+use Rattle.meaning.specs.Curve.{Bucket, listOf, reads}
+use Rattle.meaning.specs.Server.{Server, join, Behind, Delay}
 use Rattle.meaning.specs.Refusal.{Refusal, HEADER, LENGTH, PAD, LIST, COUNT, RANGE, FORM, UNBOUNDED, LARGE, ROOM, number, Lines, Wins, Clear}
 use Rattle.meaning.specs.ServerQuestions.{portLines}
 use Rattle.meaning.specs.Route.{joinedWith, Figures, FiguresOf, Report, passed, refusedAt, Onward, ends, bytes-left, stops, hop, Reported, no-curve, from-curve, text, Route}
-use Rattle.meaning.proofs.Lists.{buckets-flat}
-use Rattle.meaning.proofs.Outcomes.{wins-once}
-use Rattle.meaning.proofs.Excess.{gap-unique}
-use Rattle.meaning.proofs.Delay.{delay-of-nothing, delay-from-excess}
-use Rattle.meaning.proofs.HopByHop.{behind-unique, hop-by-hop, joined-delay}
-use Rattle.meaning.proofs.Joining.{smallest-unique, rounded-up-is}
-use Rattle.meaning.proofs.Behind.{backlog-behind}
-use Rattle.meaning.proofs.Demands.{port-form, port-server}
+use Rattle.meaning.proofs.Lists.{curve-list}
+use Rattle.meaning.proofs.outcome.Outcomes.{wins-once}
+use Rattle.meaning.proofs.server.Excess.{gap-unique}
+use Rattle.meaning.proofs.server.Delay.{delay-of-nothing, delay-from-excess}
+use Rattle.meaning.proofs.server.HopByHop.{behind-unique, hop-by-hop, joined-delay}
+use Rattle.meaning.proofs.server.Joining.{smallest-unique, rounded-up-is}
+use Rattle.meaning.proofs.server.Behind.{backlog-behind}
+use Rattle.meaning.proofs.outcome.Demands.{port-form, port-server}
 
 -- the refusal of a number
 named : ℕ → Refusal
@@ -143,21 +143,21 @@ figures-exist {f} {g} {s} filled serves b =
   where
     with-delay : {d : ℕ} → Delay f s d → (x : Figures) × FiguresOf f s x
     with-delay {d} h = (
-      record { backlog = tickValue g 0; delay = d },
+      record { backlog = reads g 0; delay = d },
       record { backlog-is = backlog-behind filled b; delay-is = h },
     )
 
 -- a curve that no line refuses has a bucket
-port-filled : (f : List Bucket) (s : Server) → Clear (portLines (flat f) s) → 1 ≤ length f
-port-filled f s clear = rw buckets-flat at (port-form (flat f) s clear .some)
+port-filled : (f : List Bucket) (s : Server) → Clear (portLines (listOf f) s) → 1 ≤ length f
+port-filled f s clear = rw curve-list at (port-form (listOf f) s clear .some)
 
 -- a server that no line refuses serves something
-port-serves : (f : List Bucket) (s : Server) → Clear (portLines (flat f) s) → 1 ≤ s .rate
-port-serves f s clear = port-server (flat f) s clear .rate-some
+port-serves : (f : List Bucket) (s : Server) → Clear (portLines (listOf f) s) → 1 ≤ s .rate
+port-serves f s clear = port-server (listOf f) s clear .rate-some
 
 -- A hop that is answered, with the hops before it:
 module _
-    (hops : List Figures) {f g : List Bucket} {s : Server} {here : Figures} (short : length hops < 32) (clear : Clear (portLines (flat f) s))
+    (hops : List Figures) {f g : List Bucket} {s : Server} {here : Figures} (short : length hops < 32) (clear : Clear (portLines (listOf f) s))
     (x : FiguresOf f s here) (b : Behind f s g)
   where
     -- the line up to it, where its curve stands behind the servers joined and its delay is the most that they add

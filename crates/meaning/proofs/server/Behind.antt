@@ -8,15 +8,15 @@ use Prim.Native.Nat.{ℕ, _+_, _-_, _*_, _≤_, min}
 use native.Mathlib.Nat.{le-of-lt, le-refl, mul-one, add-assoc, zero-add, mul-le-mul-left, mul-le-mul-right}
 use native.Mathlib.Omega.{arith}
 use lib.ListN.{length}
-use Rattle.meaning.specs.Curve.{Bucket, bucketAt, valueAt, tickValue, NormalForm}
-use Rattle.meaning.specs.Server.{Server, served, reads, GreatestGap, Excess, Behind, Backlog, last}
+use Rattle.meaning.specs.Curve.{Bucket, bucketAt, valueAt, NormalForm, reads}
+use Rattle.meaning.specs.Server.{RateLatency, served, GreatestGap, Excess, Behind, Backlog, last}
 use Rattle.meaning.specs.Computed.{excess, behind, backlog}
 use Rattle.meaning.proofs.Order.{le-or-lt}
-use Rattle.meaning.proofs.Value.{value-least, some}
-use Rattle.meaning.proofs.Joining.{served-past}
-use Rattle.meaning.proofs.Normal.{normal-is}
-use Rattle.meaning.proofs.Cut.{cut-filled, cutAt, by-line, by-slow, cut-reached, cut-early, cut-late, behind-cut}
-use Rattle.meaning.proofs.Excess.{excess-is}
+use Rattle.meaning.proofs.curve.Value.{value-least, some}
+use Rattle.meaning.proofs.server.Joining.{served-past}
+use Rattle.meaning.proofs.curve.Normal.{normal-is}
+use Rattle.meaning.proofs.server.Cut.{cut-filled, cutAt, by-line, by-slow, cut-reached, cut-early, cut-late, behind-cut}
+use Rattle.meaning.proofs.server.Excess.{excess-is}
 
 -- a line of rate r at most R is at t+u at most R·y above what it is at t+T, where y is at least u-T
 line-on :
@@ -24,10 +24,10 @@ line-on :
 line-on {r} b t u latency y slow h = omega (arith, mul-le-mul-left r h, mul-le-mul-right y slow)
 
 -- The cut of a curve by the line R·t + M, M the greatest of value(s) - R·s, read a latency after t.
-abbrev cutLater : List Bucket → Server → ℕ → ℕ → ℕ
+abbrev cutLater : List Bucket → RateLatency → ℕ → ℕ → ℕ
 cutLater f s m t = cutAt f (s .rate) m (t + s .latency) 1
 
-module _ (f : List Bucket) (s : Server) (m : ℕ) (e : Excess f (s .rate) m) (t : ℕ) where
+module _ (f : List Bucket) (s : RateLatency) (m : ℕ) (e : Excess f (s .rate) m) (t : ℕ) where
   -- the curve at t+u is no more above it than what is served by u:
   -- the line, or the bucket of rate at most R, that has the cut's value is not below the curve, and rises no faster than R
   cut-over : (u : ℕ) → reads f (t + u) ≤ served s u + cutLater f s m t
@@ -76,17 +76,18 @@ module _ (f : List Bucket) (s : Server) (m : ℕ) (e : Excess f (s .rate) m) (t 
 
 -- at every whole t the value behind is the greatest over whole u of value(t+u) minus what is served by u
 pub behind-greatest :
-    {f g : List Bucket} {s : Server} → 1 ≤ length f → Behind f s g → (t : ℕ)
-    → GreatestGap (λ u. reads f (t + u)) (served s) (tickValue g t)
+    {f g : List Bucket} {s : RateLatency} → 1 ≤ length f → Behind f s g → (t : ℕ)
+    → GreatestGap (λ u. reads f (t + u)) (served s) (reads g t)
+unfolding reads
 behind-greatest {f} {g} {s} has b t =
     rw (behind-cut b t 1 (omega arith), mul-one (s .latency)) (cut-gap f s (b .m) (b .excess) t has)
 
 -- the backlog is the value behind at 0
-pub backlog-behind : {f g : List Bucket} {s : Server} → 1 ≤ length f → Behind f s g → Backlog f s (tickValue g 0)
+pub backlog-behind : {f g : List Bucket} {s : RateLatency} → 1 ≤ length f → Behind f s g → Backlog f s (reads g 0)
 backlog-behind has b = simp zero-add at (behind-greatest has b 0)
 
 -- the computed curve is the one behind
-pub behind-is : (f : List Bucket) (s : Server) → NormalForm f → last f .rate ≤ s .rate → Behind f s (behind f s)
+pub behind-is : (f : List Bucket) (s : RateLatency) → NormalForm f → last f .rate ≤ s .rate → Behind f s (behind f s)
 unfolding behind
 behind-is f s n slow =
     record {
@@ -96,6 +97,6 @@ behind-is f s n slow =
     }
 
 -- the computed number is the backlog
-pub backlog-is : (f : List Bucket) (s : Server) → NormalForm f → last f .rate ≤ s .rate → Backlog f s (backlog f s)
+pub backlog-is : (f : List Bucket) (s : RateLatency) → NormalForm f → last f .rate ≤ s .rate → Backlog f s (backlog f s)
 unfolding backlog
 backlog-is f s n slow = backlog-behind (n .some) (behind-is f s n slow)

@@ -10,13 +10,15 @@ use native.Mathlib.Omega.{arith}
 use lib.Dec.{lit≤}
 use lib.ListN.{length, take, drop, getD, length-append, length-take, length-drop, List·getD-append}
 use lib.Seq.{take-at, length-take-le, getD-take, getD-drop}
-use Rattle.meaning.specs.Curve.{Bucket, buckets, flat}
-use Rattle.meaning.specs.Refusal.{Refusal, LIST, COUNT, RANGE, FORM, LARGE, ROOM, number, Lines, _or_, Wins, Clear, Verdict, rawLines, curveLines, TooLarge, answerLines, over, Question, allLines, Outcome, part, PartOutcome, FigureOutcome}
+use Rattle.meaning.specs.Curve.{Bucket, buckets, width, curveOf, listOf}
+use Rattle.meaning.specs.Figures.{C}
+use Rattle.meaning.specs.Refusal.{Refusal, LIST, COUNT, RANGE, FORM, LARGE, ROOM, number, Lines, _or_, Wins, Clear, Verdict, Uneven, listLines, rawLines, curveLines, TooLarge, answerLines, over, Question, allLines, Outcome, part, PartOutcome, FigureOutcome}
 use Rattle.meaning.specs.CurveQuestions.{normalising, lowering, summing}
 use Rattle.meaning.proofs.Order.{le-or-lt}
-use Rattle.meaning.proofs.Outcomes.{From, from-when, from-or, three-parts}
-use Rattle.meaning.proofs.Lists.{flat-rate, falling-at, over-start, drop-behind, empty-same}
-use Rattle.meaning.proofs.Answers.{AsksNormal, single-normal, code-zero, code-wins, wins-code, outcome-code, curve-up-to, AnsweredList, answered-list, answered-length, outcome-length, only-answered, p1-raw, p1-outcome, p2-raw, p2-outcome, p3-raw, p3-outcome}
+use Rattle.meaning.proofs.outcome.Outcomes.{From, from-when, from-or, three-parts}
+use Rattle.meaning.proofs.Lists.{list-rate, falling-at, over-start, drop-behind, empty-same, list-length}
+use Rattle.meaning.proofs.outcome.Answers.{AsksNormal, single-normal, code-zero, code-wins, wins-code, outcome-code, curve-up-to, AnsweredList, answered-list, answered-length, outcome-length, only-answered}
+use Rattle.meaning.proofs.outcome.Known.{p1-raw, p1-outcome, p2-raw, p2-outcome, p3-raw, p3-outcome}
 
 -- ---- One bucket past the part.
 
@@ -101,21 +103,21 @@ refusal-figure (FigureOutcome.answered clear e x) some = absurd (some e)
 
 -- ---- A kept duplicate.
 
--- the number at 2 * i of an answered list is the rate of the bucket at position i
+-- the number at width * i of an answered list is the rate of the bucket at position i
 rate-written :
     {ask : Question} {before after : List ℕ} {count : ℕ} {g : List ℕ} (a : AnsweredList ask before after count g) (i : ℕ) (k : Bucket)
-    → i < count → getD after (2 * i) 0 ≡ getD (buckets g) i k .rate
+    → i < count → getD after (width * i) 0 ≡ getD (curveOf g) i k .rate
 unfolding over
 rate-written {g = g} a i k h =
-    ap (λ (l : List ℕ). getD l (2 * i) 0) (a .written)
-    ∙ List·getD-append g _ 0 (2 * i) (omega (arith, answered-length a))
-    ∙ ap (λ (l : List ℕ). getD l (2 * i) 0) (sym (a .numbers))
-    ∙ flat-rate (buckets g) i k (omega (arith, a .count-is))
+    ap (λ (l : List ℕ). getD l (width * i) 0) (a .written)
+    ∙ List·getD-append g _ 0 (width * i) (omega (arith, answered-length a))
+    ∙ ap (λ (l : List ℕ). getD l (width * i) 0) (sym (a .numbers))
+    ∙ list-rate (curveOf g) i k (omega (arith, a .count-is))
 
 -- an answered list never holds two buckets of one rate: the rates in it fall strictly
 pub one-rate-once :
     {ask : Question} {raw : List Bucket} {before after : List ℕ} {count : ℕ} → AsksNormal ask raw
-    → Outcome ask before after 0 count → (i j : ℕ) → i < j → j < count → getD after (2 * j) 0 < getD after (2 * i) 0
+    → Outcome ask before after 0 count → (i j : ℕ) → i < j → j < count → getD after (width * j) 0 < getD after (width * i) 0
 one-rate-once asks o i j l h =
     let a = answered-list o in
     let k : Bucket = record { rate = 0; burst = 0 } in
@@ -124,52 +126,48 @@ one-rate-once asks o i j l h =
 
 -- P1 with (10, 2) kept twice
 pub kept-duplicate :
-    {before : List ℕ} → Outcome (normalising p1-raw) before (over (10 ∷ 2 ∷ 10 ∷ 2 ∷ 3 ∷ 20 ∷ []) before) 0 3 → ⊥
+    {before : List ℕ} → Outcome (normalising p1-raw) before (over (listOf (buckets (10 ∷ 2 ∷ 10 ∷ 2 ∷ 3 ∷ 20 ∷ []))) before) 0 3 → ⊥
 kept-duplicate o = omega (arith, only-answered p1-outcome o .figure-same)
 
 -- ---- Usefulness.
 
 -- judged by < in place of ≤ (useless only where something is strictly lower): P2 with (3, 1) kept, though all three meet at 1
 pub useful-by-less :
-    {before : List ℕ} → Outcome (normalising p2-raw) before (over (4 ∷ 0 ∷ 3 ∷ 1 ∷ 2 ∷ 2 ∷ []) before) 0 3 → ⊥
+    {before : List ℕ} → Outcome (normalising p2-raw) before (over (listOf (buckets (4 ∷ 0 ∷ 3 ∷ 1 ∷ 2 ∷ 2 ∷ []))) before) 0 3 → ⊥
 useful-by-less o = omega (arith, only-answered p2-outcome o .figure-same)
 
 -- judged at whole ticks only: P3 with (4, 2) dropped
 pub useful-at-ticks :
-    {before : List ℕ} → Outcome (normalising p3-raw) before (over (10 ∷ 0 ∷ 0 ∷ 5 ∷ []) before) 0 2 → ⊥
+    {before : List ℕ} → Outcome (normalising p3-raw) before (over (listOf (buckets (10 ∷ 0 ∷ 0 ∷ 5 ∷ []))) before) 0 2 → ⊥
 useful-at-ticks o = omega (arith, only-answered p3-outcome o .figure-same)
 
 -- ---- The order of the refusals.
 
 -- LIST is the first line of a list of numbers, and LARGE and ROOM are the last of all
-raw-from : (l : List ℕ) → From 4 (rawLines l)
+list-from : (numbers : ℕ) (l : List ℕ) (f : List Bucket) → From 4 (listLines numbers l f)
 unfolding number
-raw-from l = from-or (from-or (from-when LIST (lit≤ tt)) (from-when COUNT (lit≤ tt))) (from-when RANGE (lit≤ tt))
+list-from numbers l f = from-or (from-or (from-when LIST (lit≤ tt)) (from-when COUNT (lit≤ tt))) (from-when RANGE (lit≤ tt))
 
 curve-from : (l : List ℕ) → From 4 (curveLines l)
 unfolding number
-curve-from l = from-or (raw-from l) (from-when FORM (lit≤ tt))
+curve-from l = from-or (list-from width l (curveOf l)) (from-when FORM (lit≤ tt))
 
 answer-from : {n room : ℕ} (Answer : List Bucket → Type 0) → n ≤ 9 → From n (answerLines Answer room)
 unfolding number
 answer-from Answer h = from-or (from-when LARGE h) (from-when ROOM (omega arith))
 
--- the list is empty or of odd length
-abbrev pub EmptyOrOdd : List ℕ → Type 0
-EmptyOrOdd l = (length l ≡ 0) ⊎ (length l % 2 ≡ 1)
-
--- it is then LIST, which nothing goes before
-list-wins : (l : List ℕ) → EmptyOrOdd l → Wins (curveLines l) LIST
+-- a list that is empty or uneven is LIST, which nothing goes before
+list-wins : (l : List ℕ) → Uneven width l → Wins (curveLines l) LIST
 unfolding number
 list-wins l h = record { holds = inl (inl (inl (refl, h))); smallest = curve-from l }
 
 module _ {before after : List ℕ} {code count : ℕ} where
   -- COUNT before LIST: a list of odd length is LIST, 4, however long it is, and so is an empty one
-  pub list-before-count : (raw : List ℕ) → EmptyOrOdd raw → Outcome (normalising raw) before after code count → code ≡ 4
+  pub list-before-count : (raw : List ℕ) → Uneven 2 raw → Outcome (normalising raw) before after code count → code ≡ 4
   unfolding normalising number
   list-before-count raw h o =
       wins-code
-      (record { holds = inl (inl (inl (refl, h))); smallest = from-or (raw-from raw) (answer-from _ (lit≤ tt)) })
+      (record { holds = inl (inl (inl (refl, h))); smallest = from-or (list-from 2 raw (buckets raw)) (answer-from _ (lit≤ tt)) })
       (outcome-code o)
 
   -- ROOM before LARGE: where the exact answer is too large, the code is not ROOM
@@ -208,12 +206,12 @@ module _ {before after : List ℕ} {code count : ℕ} (f g : List ℕ) where
   sum-second-counts w first o = second-counts f g _ w first (outcome-code o)
 
   -- so a second operand that is empty or odd is LIST, whatever the first is (out of form, say).
-  pub lower-second-list : EmptyOrOdd g → Outcome (lowering f g) before after code count → code ≡ 4
+  pub lower-second-list : Uneven width g → Outcome (lowering f g) before after code count → code ≡ 4
   unfolding number
   lower-second-list h = lower-second-counts (list-wins g h) (curve-from f)
 
   -- For a sum too.
-  pub sum-second-list : EmptyOrOdd g → Outcome (summing f g) before after code count → code ≡ 4
+  pub sum-second-list : Uneven width g → Outcome (summing f g) before after code count → code ≡ 4
   unfolding number
   sum-second-list h = sum-second-counts (list-wins g h) (curve-from f)
 
@@ -230,23 +228,26 @@ module _ {ask : Question} {before after : List ℕ} {code count : ℕ} where
 
 -- a fixed reply: no one reply serves P1 and P3, in any list with room for both
 pub fixed-reply :
-    {before after : List ℕ} {code count : ℕ} → 6 ≤ length before → Outcome (normalising p1-raw) before after code count
+    {before after : List ℕ} {code count : ℕ} → length (listOf (buckets p3-raw)) ≤ length before → Outcome (normalising p1-raw) before after code count
     → Outcome (normalising p3-raw) before after code count → ⊥
-fixed-reply room o o′ = omega (arith, p1-outcome .with-room (omega arith) o .figure-same, p3-outcome .with-room room o′ .figure-same)
+unfolding buckets
+fixed-reply room o o′ =
+    let less : length (listOf C) ≤ length (listOf (buckets p3-raw)) = rw (list-length, list-length) (lit≤ tt) in
+    omega (arith, p1-outcome .with-room (omega (arith, less)) o .figure-same, p3-outcome .with-room room o′ .figure-same)
 
 module _
     {ask : Question} {raw f : List Bucket} (asks : AsksNormal ask raw) (right : ask .Answer f) {before : List ℕ} {count : ℕ}
   where
     -- what is answered is the answer
-    answered-curve : {after : List ℕ} → Outcome ask before after 0 count → (count ≡ length f) × (after ≡ over (flat f) before)
+    answered-curve : {after : List ℕ} → Outcome ask before after 0 count → (count ≡ length f) × (after ≡ over (listOf f) before)
     answered-curve o =
         let a = answered-list o in
         let e = single-normal asks _ f (a .right) right in
-        (a .count-is ∙ ap length e, a .written ∙ ap (λ (l : List ℕ). over l before) (sym (a .numbers) ∙ ap flat e))
+        (a .count-is ∙ ap length e, a .written ∙ ap (λ (l : List ℕ). over l before) (sym (a .numbers) ∙ ap listOf e))
 
     -- one that writes nothing: code 0 over a list that stays, though it does not begin with the answer
-    pub writes-nothing : take (length (flat f)) before ≢ flat f → Outcome ask before before 0 count → ⊥
-    writes-nothing other o = other (ap (take (length (flat f))) (answered-curve o .1) ∙ over-start (flat f) before)
+    pub writes-nothing : take (length (listOf f)) before ≢ listOf f → Outcome ask before before 0 count → ⊥
+    writes-nothing other o = other (ap (take (length (listOf f))) (answered-curve o .1) ∙ over-start (listOf f) before)
 
     -- an invented count
     pub invented-count : {after : List ℕ} → count ≢ length f → Outcome ask before after 0 count → ⊥

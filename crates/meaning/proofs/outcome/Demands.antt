@@ -11,19 +11,19 @@ use Prim.Native.Nat.{ℕ, _+_, _-_, _*_, _≤_, _<_}
 use native.Mathlib.Omega.{arith}
 use lib.ListN.{length}
 use lib.Dec.{lit≤}
-use Rattle.meaning.specs.Curve.{buckets, flat, tickValue, NormalForm}
-use Rattle.meaning.specs.Server.{Server, served, reads, GreatestGap, join, Behind, Delay, Residual, last}
+use Rattle.meaning.specs.Curve.{curveOf, listOf, NormalForm, reads}
+use Rattle.meaning.specs.Server.{Server, served, GreatestGap, join, Behind, Delay, Residual, last}
 use Rattle.meaning.specs.Refusal.{RANGE, UNBOUNDED, LARGE, number, Lines, _when_, _or_, Clear, Verdict, accepted, curveLines, over, Outcome, part, PartOutcome, FigureOutcome}
 use Rattle.meaning.specs.ServerQuestions.{ServerInRange, serverLines, portLines, passing, BacklogOutcome, DelayOutcome, ServerOutcome, JoinOutcome, ResidualOutcome}
 use Rattle.meaning.proofs.Order.{not-above}
-use Rattle.meaning.proofs.Stable.{server-stable}
-use Rattle.meaning.proofs.Excess.{gap-unique, excess-bounded}
-use Rattle.meaning.proofs.Behind.{behind-greatest}
-use Rattle.meaning.proofs.Joining.{smallest-unique, residual-unique, residual-law, same-server, Convolution, join-convolution}
-use Rattle.meaning.proofs.HopByHop.{hop-by-hop, behind-unique, either-order, joined-delay}
+use Rattle.meaning.proofs.outcome.Stable.{server-stable}
+use Rattle.meaning.proofs.server.Excess.{gap-unique, excess-bounded}
+use Rattle.meaning.proofs.server.Behind.{behind-greatest}
+use Rattle.meaning.proofs.server.Joining.{smallest-unique, residual-unique, residual-law, Convolution, join-convolution}
+use Rattle.meaning.proofs.server.HopByHop.{hop-by-hop, behind-unique, either-order, joined-delay}
 use Rattle.meaning.proofs.Lists.{over-start}
-use Rattle.meaning.proofs.Outcomes.{number-positive, Same, Single, refused-once, refused-or-clear, one-figure, UpTo, from-when, up-to-when, up-to-or, line-hit, clear-or, refused-first, refused-then, refusal, refuse, refuse-in-part, written-out, no-room}
-use Rattle.meaning.proofs.Answers.{OneOutcome, one-curve, readBack, AnsweredList, answered-list, answered-length, accepted-again, clear-form, figure-answered, curve-up-to}
+use Rattle.meaning.proofs.outcome.Outcomes.{number-positive, Same, Single, refused-once, refused-or-clear, one-figure, UpTo, from-when, up-to-when, up-to-or, line-hit, clear-or, refused-first, refused-then, refusal, refuse, refuse-in-part, written-out, no-room}
+use Rattle.meaning.proofs.outcome.Answers.{OneOutcome, one-curve, readBack, AnsweredList, answered-list, answered-length, accepted-again, clear-form, figure-answered, curve-up-to}
 
 -- ---- One outcome for every input.
 
@@ -32,7 +32,7 @@ one-server :
     {operands : Lines} {Answer : Server → Type 0} {code code′ : ℕ} {s s′ : Server}
     → Single Answer → ServerOutcome operands Answer code s → ServerOutcome operands Answer code′ s′ → (code ≡ code′) × (s ≡ s′)
 one-server one (ServerOutcome.refused v e) (ServerOutcome.refused w e′) =
-    let same = refused-once v w in (same .code-same, same-server (same .figure-same) (e ∙ sym e′))
+    let same = refused-once v w in (same .code-same, e ∙ sym e′)
 one-server one (ServerOutcome.refused v e) (ServerOutcome.answered clear e′ x) = absurd (refused-or-clear v clear)
 one-server one (ServerOutcome.answered clear e x) (ServerOutcome.refused w e′) = absurd (refused-or-clear w clear)
 one-server one (ServerOutcome.answered clear e x) (ServerOutcome.answered clear′ e′ x′) = (e ∙ sym e′, one _ _ x x′)
@@ -84,7 +84,7 @@ module _ (f : List ℕ) (s : Server) {Broken : Type 0} (clear : Clear (curveLine
   port-curve r h = clear r (inl (inl h))
 
   -- it is in normal form,
-  pub port-form : NormalForm (buckets f)
+  pub port-form : NormalForm (curveOf f)
   port-form = clear-form f port-curve
 
   -- the server is in range,
@@ -100,24 +100,24 @@ module _ (f : List ℕ) (s : Server) {Broken : Type 0} (clear : Clear (curveLine
 -- The curve behind: in normal form, taken wherever a curve is, and at every whole t its value is the greatest over whole u of
 -- value(t+u) minus what is served by u.
 pub record BehindRead (f : List ℕ) (s : Server) (g : List ℕ) : Type 0 where
-  pub definition : Behind (buckets f) s (buckets g)
-  pub normal-form : NormalForm (buckets g)
+  pub definition : Behind (curveOf f) s (curveOf g)
+  pub normal-form : NormalForm (curveOf g)
   pub accepted : Clear (curveLines g)
-  pub greatest : (t : ℕ) → GreatestGap (λ u. reads (buckets f) (t + u)) (served s) (tickValue (buckets g) t)
+  pub greatest : (t : ℕ) → GreatestGap (λ u. reads (curveOf f) (t + u)) (served s) (reads (curveOf g) t)
 
 -- An answered delay: it suffices at every whole tick, and no smaller number does.
 pub record DelayRead (f : List ℕ) (s : Server) (d : ℕ) : Type 0 where
-  pub suffices : (t : ℕ) → reads (buckets f) t ≤ served s (t + d)
-  pub no-less : (m : ℕ) → m < d → ((t : ℕ) → reads (buckets f) t ≤ served s (t + m)) → ⊥
+  pub suffices : (t : ℕ) → reads (curveOf f) t ≤ served s (t + d)
+  pub no-less : (m : ℕ) → m < d → ((t : ℕ) → reads (curveOf f) t ≤ served s (t + m)) → ⊥
 
 -- An answered residual: by its rule, and past its latency L it never serves more by tick t than R·(t-T) minus the cross curve's
 -- value at t-L.
 pub record ResidualRead (cross : List ℕ) (s left : Server) : Type 0 where
-  pub definition : Residual (buckets cross) s left
+  pub definition : Residual (curveOf cross) s left
   pub in-range : ServerInRange left
   pub never-more :
       (t : ℕ) → left .latency ≤ t
-      → served left t + reads (buckets cross) (t - left .latency) ≤ s .rate * (t - s .latency)
+      → served left t + reads (curveOf cross) (t - left .latency) ≤ s .rate * (t - s .latency)
 
 -- An answered joined server: it serves by each tick the min-plus convolution of what the two serve.
 pub record JoinRead (s next joined : Server) : Type 0 where
@@ -166,7 +166,7 @@ module _ (f : List ℕ) (s : Server) where
   answered-behind o = read-behind (answered-list o)
 
   -- to backlog: the greatest over whole u of value(u) minus what is served by u
-  pub answered-backlog : {n : ℕ} → BacklogOutcome f s 0 n → GreatestGap (reads (buckets f)) (served s) n
+  pub answered-backlog : {n : ℕ} → BacklogOutcome f s 0 n → GreatestGap (reads (curveOf f)) (served s) n
   unfolding BacklogOutcome
   answered-backlog o = figure-answered o .1
 
@@ -267,11 +267,11 @@ module _ {f : List ℕ} {s next joined : Server} {a g : List ℕ} (hops : TwoHop
   unfolding passing
   first-clear = port-curve f s (hop-read (hops .first) .operands-clear)
 
-  curve-form : NormalForm (buckets f)
+  curve-form : NormalForm (curveOf f)
   curve-form = clear-form f first-clear
 
   -- the second hop's curve stands behind the joined server,
-  joined-behind : Behind (buckets f) joined (buckets g)
+  joined-behind : Behind (curveOf f) joined (curveOf g)
   joined-behind = rw joined-is (hop-by-hop (curve-form .some) (first-behind .definition) (second-behind .definition))
 
   -- no line holds of the first curve and the joined server,
@@ -317,9 +317,9 @@ module _ {f : List ℕ} {s next joined : Server} {a g : List ℕ} (hops : TwoHop
 
   -- the other way round the list is the same
   order-same : {b h : List ℕ} → Hop f next b → Hop b s h → h ≡ g
-  order-same {b} {h} x y = sym (hop-read y .numbers) ∙ ap flat (sym curves) ∙ last-list .numbers
+  order-same {b} {h} x y = sym (hop-read y .numbers) ∙ ap listOf (sym curves) ∙ last-list .numbers
     where
-      curves : buckets g ≡ buckets h
+      curves : curveOf g ≡ curveOf h
       curves =
           either-order (curve-form .some) (first-behind .definition) (second-behind .definition)
           (read-behind f next (hop-read x) .definition) (read-behind b s (hop-read y) .definition)
@@ -333,7 +333,7 @@ module _ {f : List ℕ} {s next joined : Server} {a g : List ℕ} (hops : TwoHop
       let through = figure-clear joined-clear z in
       (through .0, bound (through .1))
     where
-      bound : Delay (buckets f) joined n → n ≤ d + e
+      bound : Delay (curveOf f) joined n → n ≤ d + e
       bound through =
           joined-delay next (curve-form .some) (first-behind .definition)
           (figure-clear (hop-read (hops .first) .operands-clear) x .1) (figure-clear (last-list .operands-clear) y .1)
@@ -384,7 +384,7 @@ module _ (f : List ℕ) (s : Server) (curve : Clear (curveLines f)) (server : Se
   unfolding number
   port-unbounded broken = refused-then (accepted (clear-or curve (λ r h. h .1 server)) refl) (line-hit UNBOUNDED broken)
 
-  module _ (above : s .rate < last (buckets f) .rate) where
+  module _ (above : s .rate < last (curveOf f) .rate) where
     -- so behind is refused, with no count, and the whole table stays,
     pub refused-behind : (at room : ℕ) (lent : List ℕ) → PartOutcome (passing f s) at room lent lent 8 0
     unfolding passing
@@ -415,7 +415,7 @@ module _ (f : List ℕ) (s : Server) (curve : Clear (curveLines f)) (server : Se
 
   -- residual, already where the last rate is R: with no server
   pub unbounded-residual :
-      {code : ℕ} {left : Server} → s .rate ≤ last (buckets f) .rate → ResidualOutcome f s code left
+      {code : ℕ} {left : Server} → s .rate ≤ last (curveOf f) .rate → ResidualOutcome f s code left
       → (code ≡ 8) × (left ≡ record { rate = 0; latency = 0 })
   unfolding ResidualOutcome
   unbounded-residual above o = one-residual f s o (server-refused (port-up-to f s) (lit≤ tt) (port-unbounded above))

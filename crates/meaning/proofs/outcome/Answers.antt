@@ -1,7 +1,7 @@
 -- What an answer is, as one who asks reads it. The outcome of each question over curves is fixed: code, count and the whole list
 -- afterwards. The code is 0 exactly where no line of the table holds, and otherwise the smallest number that applies. A curve
 -- that is answered, read back from the list and the count alone, is in normal form, in range, taken wherever a curve is, and has
--- at every non-negative fraction the value that was asked for. The figures P1 to P4 are the only outcomes of their questions.
+-- at every non-negative fraction the value that was asked for.
 -- Assumes nothing.
 use mathlib.Core.Path.{_≡_, refl, sym, _∙_, ap}
 use mathlib.Core.Logic.{inl, inr, _≢_, _↔_}
@@ -12,18 +12,18 @@ use native.Mathlib.Omega.{arith}
 use lib.Dec.{lit≤}
 use lib.ListN.{length, take, drop, length-take}
 use lib.Seq.{take-take}
-use Rattle.meaning.specs.Curve.{Bucket, buckets, flat, bucketAt, valueAt, tickValue, pairs, NormalForm, NormalOf}
-use Rattle.meaning.specs.Refusal.{Refusal, LIST, COUNT, RANGE, FORM, LARGE, ROOM, number, Lines, _or_, Wins, Clear, Verdict, accepted, rejected, AllInRange, rawLines, curveLines, TooLarge, over, Answered, Question, allLines, Outcome, part, PartOutcome, FigureOutcome}
+use Rattle.meaning.specs.Curve.{Bucket, buckets, width, curveOf, listOf, bucketAt, valueAt, value, NormalForm, NormalOf, pairs, linkBucket}
+use Rattle.meaning.specs.Refusal.{Refusal, LIST, COUNT, RANGE, FORM, LARGE, ROOM, number, Lines, _or_, Wins, Clear, Verdict, accepted, rejected, AllInRange, listLines, rawLines, curveLines, TooLarge, over, Answered, Question, allLines, Outcome, part, PartOutcome, FigureOutcome}
 use Rattle.meaning.specs.CurveQuestions.{normalising, lowering, summing, linkLine, shaping, ValueOutcome}
 use Rattle.meaning.specs.Computed.{isNormal, normal}
-use Rattle.meaning.proofs.Order.{le-or-lt, not-above}
-use Rattle.meaning.proofs.Unique.{normal-of-unique}
-use Rattle.meaning.proofs.Neighbours.{neighbours-sound}
-use Rattle.meaning.proofs.Stable.{range-stable, normal-stable}
-use Rattle.meaning.proofs.Normal.{normal-is}
-use Rattle.meaning.proofs.Curves.{value-both, value-pairs}
-use Rattle.meaning.proofs.Outcomes.{number-positive, clear-or, wins-once, Same, Single, one-outcome, one-part-outcome, one-figure, UpTo, up-to-when, up-to-or, no-room, written-out}
-use Rattle.meaning.proofs.Lists.{buckets-use, flat-length, buckets-flat, EachInRange, all-in-range, over-start, over-beyond, over-length}
+use Rattle.meaning.proofs.Order.{le-or-lt, not-above, not-apart}
+use Rattle.meaning.proofs.curve.Unique.{normal-of-unique}
+use Rattle.meaning.proofs.curve.Neighbours.{neighbours-sound}
+use Rattle.meaning.proofs.outcome.Stable.{range-stable, normal-stable}
+use Rattle.meaning.proofs.curve.Normal.{normal-is}
+use Rattle.meaning.proofs.curve.Curves.{value-both, value-pairs}
+use Rattle.meaning.proofs.outcome.Outcomes.{number-positive, clear-or, wins-once, Same, Single, one-outcome, one-part-outcome, one-figure, UpTo, up-to-when, up-to-or, no-room, written-out}
+use Rattle.meaning.proofs.Lists.{buckets-use, curve-use, list-length, curve-list, EachInRange, all-in-range, over-start, over-beyond, over-length}
 
 -- ---- One outcome.
 
@@ -56,17 +56,17 @@ unfolding normalising
 normalising-asks raw = record { answer-is = λ f right. right }
 
 -- lower is,
-pub lowering-asks : (f g : List ℕ) → AsksNormal (lowering f g) (buckets f ++ buckets g)
+pub lowering-asks : (f g : List ℕ) → AsksNormal (lowering f g) (curveOf f ++ curveOf g)
 unfolding lowering
 lowering-asks f g = record { answer-is = λ h right. right }
 
 -- sum is,
-pub summing-asks : (f g : List ℕ) → AsksNormal (summing f g) (pairs (buckets f) (buckets g))
+pub summing-asks : (f g : List ℕ) → AsksNormal (summing f g) (pairs (curveOf f) (curveOf g))
 unfolding summing
 summing-asks f g = record { answer-is = λ h right. right }
 
 -- and shape is
-pub shaping-asks : (f : List ℕ) (d : ℕ) → AsksNormal (shaping f d) (buckets f ++ record { rate = d; burst = 0 } ∷ [])
+pub shaping-asks : (f : List ℕ) (d : ℕ) → AsksNormal (shaping f d) (curveOf f ++ linkBucket d ∷ [])
 unfolding shaping
 shaping-asks f d = record { answer-is = λ h right. right }
 
@@ -130,20 +130,20 @@ figure-code (FigureOutcome.answered clear e x) = accepted clear e
 pub raw-some : (l : List ℕ) → Clear (rawLines l) → 1 ≤ length (buckets l)
 raw-some l clear =
     let full : length l ≢ 0 = λ e. clear LIST (inl (inl (refl, inl e))) in
-    let even : length l % 2 ≢ 1 = λ e. clear LIST (inl (inl (refl, inr e))) in
+    let even : length l % 2 ≡ 0 = not-apart (λ e. clear LIST (inl (inl (refl, inr e)))) in
     omega (arith, buckets-use l)
 
 -- a curve that is not refused is in normal form,
-pub clear-form : (f : List ℕ) → Clear (curveLines f) → NormalForm (buckets f)
+pub clear-form : (f : List ℕ) → Clear (curveLines f) → NormalForm (curveOf f)
 clear-form f clear = normal-stable (λ out. clear FORM (inr (refl, out)))
 
 -- and is not too large
-pub clear-fits : (f : List ℕ) → Clear (curveLines f) → TooLarge (buckets f) → ⊥
+pub clear-fits : (f : List ℕ) → Clear (curveLines f) → TooLarge (curveOf f) → ⊥
 clear-fits f clear (inl many) = clear COUNT (inl (inl (inr (refl, many))))
 clear-fits f clear (inr out) = clear RANGE (inl (inr (refl, out)))
 
 -- two curves that are not refused are both in normal form
-pub both-form : (f g : List ℕ) → Clear (curveLines f or curveLines g) → NormalForm (buckets f) × NormalForm (buckets g)
+pub both-form : (f g : List ℕ) → Clear (curveLines f or curveLines g) → NormalForm (curveOf f) × NormalForm (curveOf g)
 both-form f g clear = (clear-form f (λ r h. clear r (inl h)), clear-form g (λ r h. clear r (inr h)))
 
 module _ {f : List Bucket} (fits : TooLarge f → ⊥) where
@@ -155,30 +155,30 @@ module _ {f : List Bucket} (fits : TooLarge f → ⊥) where
   pub fits-ranged : AllInRange f
   fits-ranged = range-stable (λ out. fits (inr out))
 
--- the lines of a raw list have numbers up to 8,
-pub raw-up-to : (l : List ℕ) → UpTo 8 (rawLines l)
+-- the lines of a list have numbers up to 8,
+pub list-up-to : (numbers : ℕ) (l : List ℕ) (f : List Bucket) → UpTo 8 (listLines numbers l f)
 unfolding number
-raw-up-to l = up-to-or (up-to-or (up-to-when LIST (lit≤ tt)) (up-to-when COUNT (lit≤ tt))) (up-to-when RANGE (lit≤ tt))
+list-up-to numbers l f = up-to-or (up-to-or (up-to-when LIST (lit≤ tt)) (up-to-when COUNT (lit≤ tt))) (up-to-when RANGE (lit≤ tt))
 
 -- and those of a curve
 pub curve-up-to : (f : List ℕ) → UpTo 8 (curveLines f)
 unfolding number
-curve-up-to f = up-to-or (raw-up-to f) (up-to-when FORM (lit≤ tt))
+curve-up-to f = up-to-or (list-up-to width f (curveOf f)) (up-to-when FORM (lit≤ tt))
 
 -- ---- A curve that is answered.
 
--- The list that one reads who has the lent list afterwards and the count: two numbers for each bucket.
+-- The list that one reads who has the lent list afterwards and the count: its numbers for each bucket.
 abbrev pub readBack : List ℕ → ℕ → List ℕ
-readBack after count = take (2 * count) after
+readBack after count = take (width * count) after
 
 -- A list g that is answered: no line holds of the operands, it is the exact answer and not too large, and it stands in the lent
 -- list, with its count.
 pub record AnsweredList (ask : Question) (before after : List ℕ) (count : ℕ) (g : List ℕ) : Type 0 where
   pub operands-clear : Clear (ask .operands)
-  pub right : ask .Answer (buckets g)
-  pub fits : TooLarge (buckets g) → ⊥
-  pub count-is : count ≡ length (buckets g)
-  pub numbers : flat (buckets g) ≡ g
+  pub right : ask .Answer (curveOf g)
+  pub fits : TooLarge (curveOf g) → ⊥
+  pub count-is : count ≡ length (curveOf g)
+  pub numbers : listOf (curveOf g) ≡ g
   pub room : length g ≤ length before
   pub written : after ≡ over g before
 
@@ -191,18 +191,18 @@ read-answer {before = before} {after = after} {count = count} v =
     rw read-back
     (record {
       operands-clear = λ r h. v .clear r (inl h);
-      right = rw (buckets-flat (v .curve)) (v .right);
-      fits = rw (buckets-flat (v .curve)) (λ large. v .clear LARGE (inr (inl (refl, (v .curve, v .right, large)))));
-      count-is = rw (buckets-flat (v .curve)) (v .count-is);
-      numbers = rw (buckets-flat (v .curve));
+      right = rw (curve-list (v .curve)) (v .right);
+      fits = rw (curve-list (v .curve)) (λ large. v .clear LARGE (inr (inl (refl, (v .curve, v .right, large)))));
+      count-is = rw (curve-list (v .curve)) (v .count-is);
+      numbers = rw (curve-list (v .curve));
       room = not-above (λ short. v .clear ROOM (inr (inr (refl, (v .curve, v .right, short)))));
       written = v .written;
     })
   where
-    read-back : readBack after count ≡ flat (v .curve)
+    read-back : readBack after count ≡ listOf (v .curve)
     read-back =
-        let n : 2 * count ≡ length (flat (v .curve)) = omega (arith, v .count-is, flat-length (v .curve)) in
-        rw (n, v .written) (over-start (flat (v .curve)) before)
+        let n : width * count ≡ length (listOf (v .curve)) = omega (arith, v .count-is, list-length (v .curve)) in
+        rw (n, v .written) (over-start (listOf (v .curve)) before)
 
 -- and code 0 is an answer
 pub answered-list :
@@ -212,14 +212,14 @@ answered-list (Outcome.refused v) = absurd (omega (arith, number-positive (v .wh
 answered-list (Outcome.answered v) = read-answer v
 
 module _ {ask : Question} {before after : List ℕ} {count : ℕ} {g : List ℕ} (a : AnsweredList ask before after count g) where
-  -- an answered list has two numbers for each bucket
-  pub answered-length : length g ≡ 2 * count
-  answered-length = ap length (sym (a .numbers)) ∙ omega (arith, flat-length (buckets g), a .count-is)
+  -- an answered list has its numbers for each bucket
+  pub answered-length : length g ≡ width * count
+  answered-length = ap length (sym (a .numbers)) ∙ omega (arith, list-length (curveOf g), a .count-is)
 
   -- and in normal form it is itself a curve that no line refuses
-  pub accepted-again : NormalForm (buckets g) → Clear (curveLines g)
+  pub accepted-again : NormalForm (curveOf g) → Clear (curveLines g)
   accepted-again form r (inl (inl (inl (e, inl none)))) = omega (arith, answered-length, a .count-is, form .some)
-  accepted-again form r (inl (inl (inl (e, inr odd)))) = omega (arith, answered-length, a .count-is, buckets-use g)
+  accepted-again form r (inl (inl (inl (e, inr odd)))) = omega (arith, answered-length, a .count-is, curve-use g)
   accepted-again form r (inl (inl (inr h))) = a .fits (inl (h .1))
   accepted-again form r (inl (inr h)) = a .fits (inr (h .1))
   accepted-again form r (inr h) = h .1 form
@@ -236,21 +236,21 @@ outcome-length {ask} {before} {after} {count = count} (Outcome.answered v) =
 -- the numbers beyond the answer stay
 pub beyond-stays :
     {ask : Question} {before after : List ℕ} {code count : ℕ} → Outcome ask before after code count
-    → drop (2 * count) after ≡ drop (2 * count) before
-beyond-stays {count = count} (Outcome.refused v) = ap (drop (2 * count)) (v .kept)
+    → drop (width * count) after ≡ drop (width * count) before
+beyond-stays {count = count} (Outcome.refused v) = ap (drop (width * count)) (v .kept)
 beyond-stays {before = before} (Outcome.answered v) =
-    rw (v .count-is, v .written, ← flat-length (v .curve)) (over-beyond (flat (v .curve)) before)
+    rw (v .count-is, v .written, ← list-length (v .curve)) (over-beyond (listOf (v .curve)) before)
 
 -- A list in normal form, of `count` buckets, 1 to 64 and all in range, so that it is taken wherever a curve is, with this value
 -- at every non-negative fraction (times q).
 pub record AnswersWith (Value : ℕ → ℕ → ℕ) (g : List ℕ) (count : ℕ) : Type 0 where
-  pub form : NormalForm (buckets g)
-  pub counted : count ≡ length (buckets g)
+  pub form : NormalForm (curveOf g)
+  pub counted : count ≡ length (curveOf g)
   pub some : 1 ≤ count
   pub few : count ≤ 64
-  pub ranged : AllInRange (buckets g)
+  pub ranged : AllInRange (curveOf g)
   pub accepted : Clear (curveLines g)
-  pub value-is : (p q : ℕ) → 0 < q → valueAt (buckets g) p q ≡ Value p q
+  pub value-is : (p q : ℕ) → 0 < q → valueAt (curveOf g) p q ≡ Value p q
 
 -- an answer in a part of a table is read from the part's start on
 pub part-read :
@@ -259,7 +259,7 @@ pub part-read :
 unfolding part
 part-read {at = at} {room = room} {before = before} {after = after} {count = count} o =
     let a = answered-list (o .inside) in
-    take-take (2 * count) room (drop at after)
+    take-take (width * count) room (drop at after)
     (omega (arith, answered-length a, a .room, length-take room (drop at before)))
 
 -- A question that the normal form of some buckets answers, whose value is known:
@@ -299,30 +299,30 @@ module _ {before after : List ℕ} {count : ℕ} where
   -- lower: the minimum of the two curves' values
   pub lower-answers :
       (f g : List ℕ) → Outcome (lowering f g) before after 0 count
-      → AnswersWith (λ p q. min (valueAt (buckets f) p q) (valueAt (buckets g) p q)) (readBack after count) count
+      → AnswersWith (λ p q. min (valueAt (curveOf f) p q) (valueAt (curveOf g) p q)) (readBack after count) count
   unfolding lowering
   lower-answers f g o =
       let forms = both-form f g (answered-list o .operands-clear) in
-      answers (lowering-asks f g) (λ p q. value-both (buckets f) (buckets g) p q (forms .0 .some) (forms .1 .some)) o
+      answers (lowering-asks f g) (λ p q. value-both (curveOf f) (curveOf g) p q (forms .0 .some) (forms .1 .some)) o
 
   -- sum: the sum of the two curves' values
   pub sum-answers :
       (f g : List ℕ) → Outcome (summing f g) before after 0 count
-      → AnswersWith (λ p q. valueAt (buckets f) p q + valueAt (buckets g) p q) (readBack after count) count
+      → AnswersWith (λ p q. valueAt (curveOf f) p q + valueAt (curveOf g) p q) (readBack after count) count
   unfolding summing
   sum-answers f g o =
       let forms = both-form f g (answered-list o .operands-clear) in
-      answers (summing-asks f g) (λ p q. value-pairs (buckets f) (buckets g) p q (forms .0 .some) (forms .1 .some)) o
+      answers (summing-asks f g) (λ p q. value-pairs (curveOf f) (curveOf g) p q (forms .0 .some) (forms .1 .some)) o
 
   -- shape: the minimum of the curve's value and D·p/q, which times q is D·p
   pub shape-answers :
       (f : List ℕ) (d : ℕ) → Outcome (shaping f d) before after 0 count
-      → AnswersWith (λ p q. min (valueAt (buckets f) p q) (d * p)) (readBack after count) count
+      → AnswersWith (λ p q. min (valueAt (curveOf f) p q) (d * p)) (readBack after count) count
   unfolding shaping valueAt bucketAt
   shape-answers f d o =
       let form = clear-form f (λ r h. answered-list o .operands-clear r (inl h)) in
       answers (shaping-asks f d)
-      (λ p q. value-both (buckets f) (record { rate = d; burst = 0 } ∷ []) p q (form .some) (omega arith) ∙ omega arith) o
+      (λ p q. value-both (curveOf f) (linkBucket d ∷ []) p q (form .some) (omega arith) ∙ omega arith) o
 
 -- a figure that is answered is the figure, and no line holds
 pub figure-answered :
@@ -331,26 +331,29 @@ figure-answered (FigureOutcome.refused v) = absurd (omega (arith, v .code-is, nu
 figure-answered (FigureOutcome.answered clear e x) = (clear, x)
 
 -- value: the curve's value at the tick
-pub value-answer : (f : List ℕ) (t : ℕ) {figure : ℕ} → ValueOutcome f t 0 figure → figure ≡ tickValue (buckets f) t
+pub value-answer : (f : List ℕ) (t : ℕ) {figure : ℕ} → ValueOutcome f t 0 figure → figure ≡ value (curveOf f) t
 unfolding ValueOutcome
 value-answer f t o = figure-answered o .1
 
--- ---- The figures P1 to P4, as outcomes.
+-- ---- The only answer.
 
 -- A list of numbers that is taken: not empty, even, of at most 64 buckets, each in range.
-abbrev pub Taken : List ℕ → Type 0
-Taken l = (1 ≤ length l) × (length l % 2 ≡ 0) × (length (buckets l) ≤ 64) × EachInRange (buckets l)
+pub record Taken (numbers : ℕ) (l : List ℕ) (f : List Bucket) : Type 0 where
+  pub filled : 1 ≤ length l
+  pub even : length l % numbers ≡ 0
+  pub few : length f ≤ 64
+  pub ranged : EachInRange f
 
--- none of a raw list's lines holds of it
-pub raw-clear : (l : List ℕ) → Taken l → Clear (rawLines l)
-raw-clear l t r (inl (inl (e, inl none))) = omega (arith, t .0)
-raw-clear l t r (inl (inl (e, inr odd))) = omega (arith, t .1)
-raw-clear l t r (inl (inr h)) = omega (arith, t .2)
-raw-clear l t r (inr h) = h .1 (all-in-range (buckets l) (t .3))
+-- none of a list's lines holds of it
+pub list-clear : {numbers : ℕ} {l : List ℕ} {f : List Bucket} → Taken numbers l f → Clear (listLines numbers l f)
+list-clear t r (inl (inl (e, inl none))) = omega (arith, t .filled)
+list-clear t r (inl (inl (e, inr uneven))) = uneven (t .even)
+list-clear t r (inl (inr h)) = omega (arith, t .few)
+list-clear {f = f} t r (inr h) = h .1 (all-in-range f (t .ranged))
 
 -- none of a curve's lines holds of one that passes the test of normal form
-pub curve-clear : (l : List ℕ) → Taken l → isNormal (buckets l) ≡ true → Clear (curveLines l)
-curve-clear l t form = clear-or (raw-clear l t) (λ r h. h .1 (neighbours-sound (buckets l) form))
+pub curve-clear : (l : List ℕ) → Taken width l (curveOf l) → isNormal (curveOf l) ≡ true → Clear (curveLines l)
+curve-clear l t form = clear-or (list-clear t) (λ r h. h .1 (neighbours-sound (curveOf l) form))
 
 -- The only outcomes of a question: where the list has room, code 0, this count, and these numbers written from its start; where
 -- it has not, ROOM.
@@ -381,68 +384,10 @@ module _
     small (inl many) = omega (arith, fits .0)
     small (inr out) = out (all-in-range f (fits .1))
 
-    only-answer : OnlyAnswer ask (flat f) (length f)
+    pub only-answer : OnlyAnswer ask (listOf f) (length f)
     only-answer =
         let one = single-normal asks in
         record {
           with-room = λ {before} room o. one-outcome one o (written-out ask before clear right one small room);
           without-room = λ {before} short o. one-outcome one o (no-room ask before clear right one small short);
         }
-
--- normalise answers a list that is taken
-only-normalise :
-    (l : List ℕ) → Taken l → (length (normal (buckets l)) ≤ 64) × EachInRange (normal (buckets l))
-    → OnlyAnswer (normalising l) (flat (normal (buckets l))) (length (normal (buckets l)))
-unfolding normalising
-only-normalise l t fits =
-    only-answer (normalising-asks l) (raw-clear l t) (normal-is (buckets l) (raw-some l (raw-clear l t))) fits
-
--- P1: what is normalised,
-abbrev pub p1-raw : List ℕ
-p1-raw = 3 ∷ 20 ∷ 10 ∷ 2 ∷ 10 ∷ 2 ∷ 5 ∷ 15 ∷ 3 ∷ 25 ∷ []
-
--- and its only outcome
-pub p1-outcome : OnlyAnswer (normalising p1-raw) (10 ∷ 2 ∷ 3 ∷ 20 ∷ []) 2
-unfolding normal buckets flat
-p1-outcome = only-normalise p1-raw (omega arith) (omega arith)
-
--- P2, where all three meet at 1,
-abbrev pub p2-raw : List ℕ
-p2-raw = 4 ∷ 0 ∷ 3 ∷ 1 ∷ 2 ∷ 2 ∷ []
-
--- and its only outcome
-pub p2-outcome : OnlyAnswer (normalising p2-raw) (4 ∷ 0 ∷ 2 ∷ 2 ∷ []) 2
-unfolding normal buckets flat
-p2-outcome = only-normalise p2-raw (omega arith) (omega arith)
-
--- P3, where (4, 2) is lowest at one half and at no whole tick,
-abbrev pub p3-raw : List ℕ
-p3-raw = 10 ∷ 0 ∷ 4 ∷ 2 ∷ 0 ∷ 5 ∷ []
-
--- and its only outcome
-pub p3-outcome : OnlyAnswer (normalising p3-raw) (10 ∷ 0 ∷ 4 ∷ 2 ∷ 0 ∷ 5 ∷ []) 3
-unfolding normal buckets flat
-p3-outcome = only-normalise p3-raw (omega arith) (omega arith)
-
--- the only outcome of P4: C plus {(4,0),(2,2)}
-pub p4-outcome :
-    OnlyAnswer (summing (10 ∷ 2 ∷ 3 ∷ 20 ∷ []) (4 ∷ 0 ∷ 2 ∷ 2 ∷ [])) (14 ∷ 2 ∷ 12 ∷ 4 ∷ 5 ∷ 22 ∷ []) 3
-unfolding summing normal buckets flat pairs isNormal
-p4-outcome =
-    only-answer (summing-asks (10 ∷ 2 ∷ 3 ∷ 20 ∷ []) (4 ∷ 0 ∷ 2 ∷ 2 ∷ []))
-    (clear-or (curve-clear (10 ∷ 2 ∷ 3 ∷ 20 ∷ []) (omega arith) refl) (curve-clear (4 ∷ 0 ∷ 2 ∷ 2 ∷ []) (omega arith) refl))
-    (normal-is _ (lit≤ tt))
-    (omega arith)
-
--- the only outcome of shaping {(3,20)} by 10
-pub shape-outcome : OnlyAnswer (shaping (3 ∷ 20 ∷ []) 10) (10 ∷ 0 ∷ 3 ∷ 20 ∷ []) 2
-unfolding shaping normal buckets flat isNormal
-shape-outcome =
-    only-answer (shaping-asks (3 ∷ 20 ∷ []) 10)
-    (clear-or (curve-clear (3 ∷ 20 ∷ []) (omega arith) refl) link)
-    (normal-is _ (lit≤ tt))
-    (omega arith)
-  where
-    link : Clear (linkLine 10)
-    link r (e, inl none) = omega arith
-    link r (e, inr big) = omega arith

@@ -2,6 +2,7 @@
 -- where M is the greatest of value(s) - R·s. With one tick less it fails: what is carried by tick 1 needs the latency, and the
 -- tick at which M is reached needs the quotient besides.
 -- Assumes nothing.
+use mathlib.Core.Bool.{cond}
 use mathlib.Core.Path.{_≡_, ap}
 use mathlib.Core.List.{List}
 use Prim.Native.Nat.{ℕ, _+_, _-_, _*_, _≤_}
@@ -10,13 +11,12 @@ use native.Mathlib.Decide.{ℕ-discrete}
 use native.Mathlib.Omega.{arith}
 use lib.ListN.{length}
 use borrow.Author.Tests.{eq-eqb, ne-eqb}
-use Rattle.meaning.specs.Curve.{Bucket, bucketAt, tickValue, NormalForm}
-use Rattle.meaning.specs.Server.{Server, served, reads, Smallest, Excess, Delay, last}
+use Rattle.meaning.specs.Curve.{Bucket, bucketAt, NormalForm, reads}
+use Rattle.meaning.specs.Server.{RateLatency, served, Smallest, Excess, Delay, last}
 use Rattle.meaning.specs.Computed.{delay}
-use Rattle.meaning.specs.Server.{pick}
-use Rattle.meaning.proofs.Value.{value-least, value-reached}
-use Rattle.meaning.proofs.Joining.{served-past, rounded-up-is}
-use Rattle.meaning.proofs.Excess.{excess-is}
+use Rattle.meaning.proofs.curve.Value.{value-least, value-reached}
+use Rattle.meaning.proofs.server.Joining.{served-past, rounded-up-is}
+use Rattle.meaning.proofs.server.Excess.{excess-is}
 
 -- a curve that carries nothing by tick 1 carries nothing by any tick
 carries-nothing : (f : List Bucket) → 1 ≤ length f → reads f 1 ≡ 0 → (t : ℕ) → reads f t ≡ 0
@@ -27,13 +27,13 @@ carries-nothing f some none t =
     omega (arith, r .value-is, value-least f t 1 (r .inside), ap (λ x. x * t) idle)
 
 -- so it has no delay
-pub delay-of-nothing : (f : List Bucket) (s : Server) → 1 ≤ length f → reads f 1 ≡ 0 → Delay f s 0
+pub delay-of-nothing : (f : List Bucket) (s : RateLatency) → 1 ≤ length f → reads f 1 ≡ 0 → Delay f s 0
 delay-of-nothing f s some none =
     record { suffices = λ t. omega (arith, carries-nothing f some none t); smallest = λ d enough. omega arith }
 
 -- Any other curve, with M the greatest of value(s) - R·s, and x the quotient M/R rounded up:
 module _
-    (f : List Bucket) (s : Server) {m : ℕ} (x : ℕ) (e : Excess f (s .rate) m) (rounded : Smallest (λ y. m ≤ s .rate * y) x)
+    (f : List Bucket) (s : RateLatency) {m : ℕ} (x : ℕ) (e : Excess f (s .rate) m) (rounded : Smallest (λ y. m ≤ s .rate * y) x)
   where
     -- latency and quotient suffice
     suffice : (t : ℕ) → reads f t ≤ served s (t + (s .latency + x))
@@ -62,12 +62,12 @@ module _
             omega (arith, quotient-needed (d - s .latency) (rw sum (enough (e .at))))
 
 -- the computed number is the delay
-pub delay-is : {f : List Bucket} (s : Server) → NormalForm f → last f .rate ≤ s .rate → 1 ≤ s .rate → Delay f s (delay f s)
-unfolding delay pick reads
+pub delay-is : {f : List Bucket} (s : RateLatency) → NormalForm f → last f .rate ≤ s .rate → 1 ≤ s .rate → Delay f s (delay f s)
+unfolding delay reads
 delay-is {f} s n slow some =
-    elim (ℕ-discrete (tickValue f 1) 0) [
-      | yes e ↦ rw (eq-eqb (tickValue f 1) 0 e) (delay-of-nothing f s (n .some) e)
+    elim (ℕ-discrete (reads f 1) 0) [
+      | yes e ↦ rw (eq-eqb (reads f 1) 0 e) (delay-of-nothing f s (n .some) e)
       | no e ↦
-          rw (ne-eqb (tickValue f 1) 0 e)
+          rw (ne-eqb (reads f 1) 0 e)
           (delay-from-excess f s _ (excess-is (s .rate) n slow) (rounded-up-is _ (s .rate) some) e)
     ]

@@ -3,7 +3,7 @@
 -- their cross products say so.
 -- Assumes nothing.
 use mathlib.Core.Path.{_≡_, refl, sym, _∙_, ap}
-use mathlib.Core.Bool.{Bool, true, false, true≢false, and-eq-true-iff}
+use mathlib.Core.Bool.{Bool, true, false, true≢false, and-eq-true-iff, cond}
 use mathlib.Core.Logic.{_⊎_, inl, inr}
 use mathlib.Core.List.{List, [], _∷_, List·Memᴰ·head, List·Memᴰ·tail, List·Memᴰ·not-nil}
 use Prim.Native.Nat.{ℕ, _+_, _-_, _*_, _≤_, _<_}
@@ -13,24 +13,22 @@ use lib.Dec.{ltb}
 use borrow.Author.Tests.{ltb-true, ltb-false, lt-ltb}
 use Rattle.meaning.specs.Curve.{Bucket, _∈_, bucketAt, Useful}
 use Rattle.meaning.specs.Computed.{Ends, everyTime, afterSteeper, beforeFlatter, besideEqual, narrowed, isOpen, staysOpen, isUseful}
-use Rattle.meaning.specs.Server.{pick}
 use Rattle.meaning.proofs.Order.{le-or-lt}
 use Rattle.meaning.proofs.Lists.{cons-each}
-use Rattle.meaning.proofs.Lowest.{same-bucket, other-rate}
-use Rattle.meaning.proofs.Neighbours.{earlier-trans, below-rises}
+use Rattle.meaning.proofs.curve.Lowest.{same-bucket, other-rate}
+use Rattle.meaning.proofs.curve.Neighbours.{earlier-trans, below-rises}
 
 -- what is picked of two by a test has what each of them has where the test picks it
-pub pick-holds {ℓ} :
-    {X : Type ℓ} (P : X → Type 0) {x y : X} (t : Bool) → (t ≡ true → P x) → (t ≡ false → P y) → P (pick t x y)
-unfolding pick
-pick-holds P true first second = first refl
-pick-holds P false first second = second refl
+pub cond-holds {ℓ} :
+    {X : Type ℓ} (P : X → Type 0) {x y : X} (t : Bool) → (t ≡ true → P x) → (t ≡ false → P y) → P (cond t x y)
+cond-holds P true first second = first refl
+cond-holds P false first second = second refl
 
 -- the same where the test compares two numbers
 pub picked {ℓ} :
-    {X : Type ℓ} (P : X → Type 0) {x y : X} (a b : ℕ) → (a < b → P x) → (b ≤ a → P y) → P (pick (ltb a b) x y)
+    {X : Type ℓ} (P : X → Type 0) {x y : X} (a b : ℕ) → (a < b → P x) → (b ≤ a → P y) → P (cond (ltb a b) x y)
 picked P a b first second =
-    pick-holds P (ltb a b) (λ t. first (ltb-true a b t)) (λ t. second (ltb-false a b t))
+    cond-holds P (ltb a b) (λ t. first (ltb-true a b t)) (λ t. second (ltb-false a b t))
 
 -- a product that is more than something has no factor 0
 left-some : (a b : ℕ) {n : ℕ} → n < a * b → 0 < a
@@ -102,7 +100,7 @@ withHigh e b n = record { low = e .low; lowOver = e .lowOver; high = b; highOver
 
 module _ (e : Ends) (b n : ℕ) (some : 0 < n) where
   -- the later of the lower end and b/n leaves the times past b/n
-  past : Leaves e (pick (ltb (e .low * n) (b * e .lowOver)) (withLow e b n) e) (λ p q. b * q < p * n)
+  past : Leaves e (cond (ltb (e .low * n) (b * e .lowOver)) (withLow e b n) e) (λ p q. b * q < p * n)
   past = picked (λ left. Leaves e left (λ p q. b * q < p * n)) _ _ raised kept
     where
       raised : e .low * n < b * e .lowOver → Leaves e (withLow e b n) (λ p q. b * q < p * n)
@@ -124,7 +122,7 @@ module _ (e : Ends) (b n : ℕ) (some : 0 < n) where
           }
 
   -- the earlier of the upper end and b/n leaves the times up to b/n
-  upTo : Leaves e (pick (ltb (b * e .highOver) (e .high * n)) (withHigh e b n) e) (λ p q. p * n < b * q)
+  upTo : Leaves e (cond (ltb (b * e .highOver) (e .high * n)) (withHigh e b n) e) (λ p q. p * n < b * q)
   upTo = picked (λ left. Leaves e left (λ p q. p * n < b * q)) _ _ lowered kept
     where
       lowered : b * e .highOver < e .high * n → Leaves e (withHigh e b n) (λ p q. p * n < b * q)

@@ -16,7 +16,7 @@ use Rattle.meaning.specs.Refusal.{InRange, AllInRange}
 use Rattle.meaning.specs.ServerQuestions.{ServerInRange}
 use Rattle.meaning.specs.Computed.{isNormal}
 use Rattle.meaning.proofs.Lists.{cons-each}
-use Rattle.meaning.proofs.Neighbours.{neighbours-sound, neighbours-refute}
+use Rattle.meaning.proofs.curve.Neighbours.{neighbours-sound, neighbours-refute}
 
 -- a bucket is in range or it is not
 pub decide-in-range : (k : Bucket) → Dec (InRange k)

@@ -11,7 +11,7 @@ use native.Mathlib.Omega.{arith}
 use lib.ListN.{length}
 use Rattle.meaning.specs.Curve.{Bucket, _∈_, bucketAt, valueAt, Useful}
 use Rattle.meaning.proofs.Lists.{cons-each}
-use Rattle.meaning.proofs.Value.{Reached, same-rate, same-bucket-at, value-least, value-reached, value-unique}
+use Rattle.meaning.proofs.curve.Value.{Reached, same-rate, same-bucket-at, value-least, value-reached, value-unique}
 
 -- buckets of the same rate and the same burst are the same
 pub same-bucket : {k j : Bucket} → k .rate ≡ j .rate → k .burst ≡ j .burst → k ≡ j

@@ -13,7 +13,7 @@ use lib.ListN.{List·getD-append, getD, length, take, drop, replicate, length-ap
 use lib.Seq.{take-all, take-suc, getD-drop, getD-append-add, take-at, drop-at, drop-drop, drop-append-seam, length-take-le}
 use lib.Pow.{pow-pos, pow-mono, high, mod-pow-add}
 use borrow.Author.Tests.{eq-eqb, ne-eqb}
-use Rattle.meaning.proofs.Outcomes.{Same, refused-once, refused-or-clear}
+use Rattle.meaning.proofs.outcome.Outcomes.{Same, refused-once, refused-or-clear}
 use Rattle.meaning.specs.Curve.{Bucket, NormalForm}
 use Rattle.meaning.specs.Server.{Server}
 use Rattle.meaning.specs.Refusal.{HEADER, LENGTH, PAD, Lines, Clear, AllInRange}
@@ -21,8 +21,8 @@ use Rattle.meaning.specs.ServerQuestions.{ServerInRange}
 use Rattle.meaning.specs.Profile.{bitsOf, spelt, Field, _bits_, packed, fileBits, bytesOf, edition, Profile, curve, server, kindOf, bucketFields, fields, profileBits, byteCount, written, field, bucketsIn, profileOf, padding, profileLines, fileLines, ReadOutcome, WriteOutcome}
 use Rattle.meaning.proofs.Order.{le-or-lt, not-apart}
 use Rattle.meaning.proofs.Lists.{cons-each}
-use Rattle.meaning.proofs.Lowest.{same-bucket}
-use Rattle.meaning.proofs.Joining.{same-server}
+use Rattle.meaning.proofs.curve.Lowest.{same-bucket}
+use Rattle.meaning.proofs.server.Joining.{same-server}
 
 -- Every number of the list is 0 or 1.
 abbrev pub Binary : List ℕ → Type 0

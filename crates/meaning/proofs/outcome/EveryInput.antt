@@ -11,23 +11,23 @@ use native.Mathlib.Decide.{decLe, ℕ-discrete}
 use native.Mathlib.Omega.{arith}
 use lib.ListN.{length, length-append}
 use lib.Dec.{lit≤}
-use Rattle.meaning.specs.Curve.{Bucket, buckets, flat, tickValue, NormalOf}
-use Rattle.meaning.specs.Server.{Server, join, last}
+use Rattle.meaning.specs.Curve.{Bucket, buckets, width, curveOf, listOf, value, NormalOf, linkBucket}
+use Rattle.meaning.specs.Server.{Server, noServer, join, last}
 use Rattle.meaning.specs.CurveQuestions.{normalising, lowering, summing, shaping, ValueOutcome}
-use Rattle.meaning.specs.Refusal.{Refusal, LIST, COUNT, RANGE, FORM, UNBOUNDED, LARGE, number, Lines, _when_, _or_, Clear, Verdict, accepted, rejected, TooLarge, rawLines, curveLines, Question, Outcome, FigureOutcome}
+use Rattle.meaning.specs.Refusal.{Refusal, LIST, COUNT, RANGE, FORM, UNBOUNDED, LARGE, number, Lines, _when_, _or_, Clear, Verdict, accepted, rejected, TooLarge, listLines, curveLines, Question, Outcome, FigureOutcome}
 use Rattle.meaning.specs.ServerQuestions.{ServerInRange, serverLines, portLines, passing, BacklogOutcome, DelayOutcome, ServerOutcome, JoinOutcome, ResidualOutcome}
 use Rattle.meaning.specs.Computed.{earlier, normal, behind, backlog, delay, residual}
 use Rattle.meaning.proofs.Order.{le-or-lt, not-above}
-use Rattle.meaning.proofs.Unique.{normal-of-unique}
-use Rattle.meaning.proofs.Stable.{decide-all-in-range, decide-server, decide-normal}
-use Rattle.meaning.proofs.Normal.{normal-is}
-use Rattle.meaning.proofs.Curves.{pairs-length}
-use Rattle.meaning.proofs.Behind.{behind-is, backlog-is}
-use Rattle.meaning.proofs.Delay.{delay-is}
-use Rattle.meaning.proofs.Joining.{residual-is, residual-unique}
-use Rattle.meaning.proofs.Answers.{raw-some, both-form, raw-up-to, curve-up-to}
-use Rattle.meaning.proofs.Demands.{port-form, port-server, port-bounded, single-behind, server-up-to, port-up-to, server-refused}
-use Rattle.meaning.proofs.Outcomes.{number-positive, Single, UpTo, up-to-or, up-to-when, line-hit, line-miss, clear-or, refused-then, verdict-or, refusal, refuse, too-large, no-room, written-out}
+use Rattle.meaning.proofs.curve.Unique.{normal-of-unique}
+use Rattle.meaning.proofs.outcome.Stable.{decide-all-in-range, decide-server, decide-normal}
+use Rattle.meaning.proofs.curve.Normal.{normal-is}
+use Rattle.meaning.proofs.curve.Curves.{pairs-length}
+use Rattle.meaning.proofs.server.Behind.{behind-is, backlog-is}
+use Rattle.meaning.proofs.server.Delay.{delay-is}
+use Rattle.meaning.proofs.server.Joining.{residual-is, residual-unique}
+use Rattle.meaning.proofs.outcome.Answers.{raw-some, both-form, list-up-to, curve-up-to}
+use Rattle.meaning.proofs.outcome.Demands.{port-form, port-server, port-bounded, single-behind, server-up-to, port-up-to, server-refused}
+use Rattle.meaning.proofs.outcome.Outcomes.{number-positive, Single, UpTo, up-to-or, up-to-when, line-hit, line-miss, clear-or, refused-then, verdict-or, refusal, refuse, too-large, no-room, written-out}
 
 -- ---- What can be decided.
 
@@ -56,16 +56,16 @@ decide-too-large f = decide-either (decLe 65 (length f)) (Dec·not (decide-all-i
 
 -- ---- The lines of operands.
 
--- a test of a raw list comes out,
-raw-decided : (l : List ℕ) → Decided (rawLines l)
-raw-decided l =
-    decide-or (decide-or (decide-line LIST (decide-either (ℕ-discrete (length l) 0) (ℕ-discrete (length l % 2) 1)))
-    (decide-line COUNT (decLe 65 (length (buckets l)))))
-    (decide-line RANGE (Dec·not (decide-all-in-range (buckets l))))
+-- a test of a list of buckets comes out,
+list-decided : (numbers : ℕ) (l : List ℕ) (f : List Bucket) → Decided (listLines numbers l f)
+list-decided numbers l f =
+    decide-or (decide-or (decide-line LIST (decide-either (ℕ-discrete (length l) 0) (Dec·not (ℕ-discrete (length l % numbers) 0))))
+    (decide-line COUNT (decLe 65 (length f))))
+    (decide-line RANGE (Dec·not (decide-all-in-range f)))
 
 -- of a curve,
 curve-decided : (f : List ℕ) → Decided (curveLines f)
-curve-decided f = decide-or (raw-decided f) (decide-line FORM (Dec·not (decide-normal (buckets f))))
+curve-decided f = decide-or (list-decided width f (curveOf f)) (decide-line FORM (Dec·not (decide-normal (curveOf f))))
 
 -- of a server,
 server-decided : (s : Server) → Decided (serverLines s)
@@ -116,7 +116,7 @@ curve-outcome ask before (code, accepted clear e) upto one exact =
     elim (decide-too-large f) [
       | yes large ↦ so-curve (too-large ask before clear right large)
       | no fits ↦
-          elim (le-or-lt (length (flat f)) (length before)) [
+          elim (le-or-lt (length (listOf f)) (length before)) [
             | inl room ↦ so-curve (written-out ask before clear right one fits room)
             | inr short ↦ so-curve (no-room ask before clear right one fits short)
           ]
@@ -144,7 +144,7 @@ unfolding number
 server-outcome (code, rejected r w e) upto one exact =
     record {
       code = code;
-      server = record { rate = 0; latency = 0 };
+      server = noServer;
       outcome = server-refused upto (omega (arith, e, number-positive r)) (rejected r w e);
     }
 server-outcome (code, accepted clear e) upto one exact =
@@ -162,7 +162,7 @@ server-outcome (code, accepted clear e) upto one exact =
       | no out ↦
           record {
             code = 9;
-            server = record { rate = 0; latency = 0 };
+            server = noServer;
             outcome =
                 ServerOutcome.refused
                 (refusal [] (lit≤ tt) (refused-then (accepted clear refl) (line-hit LARGE (s, right, out)))) refl;
@@ -182,7 +182,7 @@ normal-outcome {raw = raw} before decided upto filled =
 -- normalise has an outcome over every lent list,
 pub normalise-has-outcome : (raw before : List ℕ) → HasOutcome (normalising raw) before
 unfolding normalising
-normalise-has-outcome raw before = normal-outcome before (raw-decided raw) (raw-up-to raw) (raw-some raw)
+normalise-has-outcome raw before = normal-outcome before (list-decided 2 raw (buckets raw)) (list-up-to 2 raw (buckets raw)) (raw-some raw)
 
 module _ (f g before : List ℕ) where
   -- lower has,
@@ -190,7 +190,7 @@ module _ (f g before : List ℕ) where
   unfolding lowering
   lower-has-outcome =
       normal-outcome before (decide-or (curve-decided f) (curve-decided g)) (up-to-or (curve-up-to f) (curve-up-to g))
-      (λ clear. omega (arith, both-form f g clear .0 .some, length-append (buckets f) (buckets g)))
+      (λ clear. omega (arith, both-form f g clear .0 .some, length-append (curveOf f) (curveOf g)))
 
   -- sum has,
   pub sum-has-outcome : HasOutcome (summing f g) before
@@ -200,7 +200,7 @@ module _ (f g before : List ℕ) where
       (λ clear.
       omega (
         arith,
-        pairs-length (buckets f) (buckets g),
+        pairs-length (curveOf f) (curveOf g),
         mul-le-mul (both-form f g clear .0 .some) (both-form f g clear .1 .some),
       ))
 
@@ -211,23 +211,23 @@ shape-has-outcome f d before =
     normal-outcome before
     (decide-or (curve-decided f) (decide-line RANGE (decide-either (ℕ-discrete d 0) (decLe (2 ^ 20) d))))
     (up-to-or (curve-up-to f) (up-to-when RANGE (lit≤ tt)))
-    (λ clear. omega (arith, length-append (buckets f) (record { rate = d; burst = 0 } ∷ [])))
+    (λ clear. omega (arith, length-append (curveOf f) (linkBucket d ∷ [])))
 
 -- value has one
 pub value-has-outcome : (f : List ℕ) (t : ℕ) → HasFigure (ValueOutcome f t)
 unfolding ValueOutcome
 value-has-outcome f t =
-    figure-outcome (decide-or (curve-decided f) (decide-line RANGE (decLe (2 ^ 40) t))) (λ clear. (tickValue (buckets f) t, refl))
+    figure-outcome (decide-or (curve-decided f) (decide-line RANGE (decLe (2 ^ 40) t))) (λ clear. (value (curveOf f) t, refl))
 
 -- ---- The operations over servers.
 
 module _ (f : List ℕ) (s : Server) where
   -- the last rate is above R, or it is not
-  bounded : Dec (s .rate < last (buckets f) .rate)
-  bounded = decLe (suc (s .rate)) (last (buckets f) .rate)
+  bounded : Dec (s .rate < last (curveOf f) .rate)
+  bounded = decLe (suc (s .rate)) (last (curveOf f) .rate)
 
   -- where no line holds it is not
-  last-bounded : Clear (portLines f s) → last (buckets f) .rate ≤ s .rate
+  last-bounded : Clear (portLines f s) → last (curveOf f) .rate ≤ s .rate
   last-bounded clear = not-above (port-bounded f s clear)
 
   -- behind has an outcome over every lent list,
@@ -235,28 +235,28 @@ module _ (f : List ℕ) (s : Server) where
   unfolding passing
   behind-has-outcome before =
       curve-outcome (passing f s) before (port-decided f s bounded) (port-up-to f s) (single-behind f s)
-      (λ clear. (behind (buckets f) s, behind-is (buckets f) s (port-form f s clear) (last-bounded clear)))
+      (λ clear. (behind (curveOf f) s, behind-is (curveOf f) s (port-form f s clear) (last-bounded clear)))
 
   -- backlog has one,
   pub backlog-has-outcome : HasFigure (BacklogOutcome f s)
   unfolding BacklogOutcome
   backlog-has-outcome =
       figure-outcome (port-decided f s bounded)
-      (λ clear. (backlog (buckets f) s, backlog-is (buckets f) s (port-form f s clear) (last-bounded clear)))
+      (λ clear. (backlog (curveOf f) s, backlog-is (curveOf f) s (port-form f s clear) (last-bounded clear)))
 
   -- delay has one,
   pub delay-has-outcome : HasFigure (DelayOutcome f s)
   unfolding DelayOutcome
   delay-has-outcome =
       figure-outcome (port-decided f s bounded)
-      (λ clear. (delay (buckets f) s, delay-is s (port-form f s clear) (last-bounded clear) (port-server f s clear .rate-some)))
+      (λ clear. (delay (curveOf f) s, delay-is s (port-form f s clear) (last-bounded clear) (port-server f s clear .rate-some)))
 
   -- residual has one,
   pub residual-has-outcome : HasServer (ResidualOutcome f s)
   unfolding ResidualOutcome
   residual-has-outcome =
-      server-outcome (port-decided f s (decLe (s .rate) (last (buckets f) .rate))) (port-up-to f s) (λ x y. residual-unique)
-      (λ clear. (residual (buckets f) s, residual-is (buckets f) s (port-server f s clear .rate-some)))
+      server-outcome (port-decided f s (decLe (s .rate) (last (curveOf f) .rate))) (port-up-to f s) (λ x y. residual-unique)
+      (λ clear. (residual (curveOf f) s, residual-is (curveOf f) s (port-server f s clear .rate-some)))
 
 -- and join has one
 pub join-has-outcome : (s next : Server) → HasServer (JoinOutcome s next)

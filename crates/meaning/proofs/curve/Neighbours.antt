@@ -15,7 +15,7 @@ use Rattle.meaning.specs.Curve.{Bucket, _∈_, bucketAt, Falling, Useful
 use Rattle.meaning.specs.Computed.{crossingsRise, isNormal}
 use Rattle.meaning.proofs.Order.{not-above}
 use Rattle.meaning.proofs.Lists.{cons-each}
-use Rattle.meaning.proofs.Lowest.{other-rate, useful-least, useful-there, useful-fewer}
+use Rattle.meaning.proofs.curve.Lowest.{other-rate, useful-least, useful-there, useful-fewer}
 
 -- p/q ≤ x/y and x/y < u/v give p/q < u/v
 pub earlier-trans : (p q x y u v : ℕ) → 0 < q → p * y ≤ x * q → x * v < u * y → p * v < u * q

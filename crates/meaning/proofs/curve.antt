@@ -1,0 +1,8 @@
+-- The laws of curves: value, normal form, and the operations on curves.
+pub mod Value
+pub mod Lowest
+pub mod Unique
+pub mod Neighbours
+pub mod Usefulness
+pub mod Normal
+pub mod Curves

@@ -1,0 +1,2 @@
+-- The laws of the profile file.
+pub mod Profiles

@@ -1,0 +1,2 @@
+-- The laws of the route program.
+pub mod Routes

@@ -1,0 +1,8 @@
+-- The laws of servers: what is cut, the curve behind, backlog, delay, joining, hop by hop.
+pub mod Cut
+pub mod HopByHop
+pub mod Excess
+pub mod Behind
+pub mod Delay
+pub mod Sizes
+pub mod Joining
