@@ -1,16 +1,17 @@
 -- From the flat list of numbers to its buckets and back: which bucket is read at an index, how many there are, and what is
 -- left of them from an index on.
 -- Assumes nothing.
-use mathlib.Core.Path.{_≡_, refl, _∙_, ap}
+use mathlib.Core.Path.{_≡_, refl, sym, _∙_, ap}
 use mathlib.Core.Logic.{_⊎_, inl, inr}
 use mathlib.Core.List.{List, [], _∷_, _++_, List·Memᴰ·head, List·Memᴰ·tail, List·Memᴰ·cases-cons}
 use Prim.Native.Nat.{ℕ, zero, suc, _+_, _*_, _/_, _%_, _≤_, _<_}
-use native.Mathlib.Numerals.{towards-suc, unary-clauses}
+use native.Mathlib.Numerals.{add-one, towards-suc, unary-clauses}
 use native.Mathlib.Omega.{arith}
-use lib.ListN.{length, getD, take, drop, length-drop}
+use lib.ListN.{length, getD, take, drop, length-drop, List·getD-eq-default}
 use lib.Seq.{drop-cons}
-use Rattle.meaning.proofs.Lists.{buckets-use}
-use Rattle.meaning.specs.Curve.{Bucket, _∈_, buckets, flat}
+use Rattle.meaning.proofs.Lists.{buckets-use, curve-use}
+use Rattle.meaning.specs.Curve.{Bucket, _∈_, buckets, flat, width, curveOf}
+use Rattle.checks.specs.Contracts.{nth}
 
 -- the bucket that is read at an index
 abbrev pub bucket-at : List ℕ → ℕ → Bucket
@@ -133,3 +134,25 @@ buckets-drop l zero = refl
 buckets-drop [] (suc n) = buckets-end [] (2 * suc n) (omega arith)
 buckets-drop (r ∷ []) (suc n) = buckets-end (r ∷ []) (2 * suc n) (omega arith)
 buckets-drop (r ∷ b ∷ l) (suc n) = simp unary-clauses (buckets-drop l n)
+
+-- ---- A curve's list, bucket by bucket.
+
+-- so many buckets as its numbers come to
+pub curve-count : (l : List ℕ) → length l / width ≡ length (curveOf l)
+curve-count l = omega (arith, curve-use l)
+
+module _ (l : List ℕ) {k : ℕ} where
+  -- past the last there is none
+  pub nth-none : length l / width ≤ k → record { rate = 0; burst = 0 } ≡ nth (curveOf l) k
+  nth-none h = sym (List·getD-eq-default (curveOf l) _ (omega (arith, curve-count l)))
+
+  -- its numbers are its rate and burst
+  pub nth-is : k < length l / width → bucket-at l (width * k) ≡ nth (curveOf l) k
+  unfolding curveOf
+  nth-is h = sym (bucket-number l k _ (omega (arith, curve-count l)))
+
+-- from the bucket numbered k on there is that one, and then those from the next on
+pub left-from : (f : List Bucket) (k : ℕ) {here : Bucket} → k < length f → here ≡ nth f k → drop k f ≡ here ∷ drop (k + 1) f
+left-from f k h is = rw add-one (drop-cons f k _ h ∙ ap (λ (j : Bucket). j ∷ drop (suc k) f) (sym is))
+
+pub ruleset nths = (curve-count, nth-none, nth-is)

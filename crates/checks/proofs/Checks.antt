@@ -10,71 +10,16 @@ use native.Mathlib.Omega.{arith}
 use lib.ListN.{length}
 use lib.Dec.{lit≤}
 use borrow.Author.Tests.{eq-eqb, ne-eqb, not-true, not-false}
-use Rattle.meaning.specs.Curve.{buckets, NormalForm}
-use Rattle.meaning.specs.Refusal.{LIST, COUNT, RANGE, FORM, number, Lines, _when_, _or_, Clear, Verdict, accepted, rejected, AllInRange, rawLines, curveLines}
+use Rattle.meaning.specs.Curve.{Bucket, buckets, width, curveOf, NormalForm}
+use Rattle.meaning.specs.Refusal.{LIST, COUNT, RANGE, FORM, number, Lines, _when_, _or_, Clear, Verdict, accepted, rejected, AllInRange, Uneven, listLines, rawLines, curveLines}
 use Rattle.meaning.specs.Computed.{earlier}
 use Rattle.meaning.proofs.outcome.Outcomes.{number-positive, from-when, up-to-when, up-to-or, line-hit, line-miss, refused-first, refused-then}
 use Rattle.checks.specs.Contracts.{Tells}
-use Rattle.meaning.proofs.Lists.{buckets-use}
-use Rattle.meaning.proofs.outcome.Stable.{range-stable, normal-stable}
+use Rattle.meaning.proofs.Lists.{buckets-use, curve-use}
+use Rattle.meaning.proofs.Order.{not-above, not-apart}
+use Rattle.meaning.proofs.outcome.Stable.{range-stable}
 
--- ---- The lines of a raw list, in the order of their numbers.
-
-module _ (l : List ℕ) where
-  -- what LIST or COUNT refuses is refused, whatever the ranges
-  short-refused :
-      {code : ℕ}
-      → 1 ≤ code
-      → Verdict (LIST when ((length l ≡ 0) ⊎ (length l % 2 ≡ 1)) or COUNT when (64 < length (buckets l))) code
-      → Verdict (rawLines l) code
-  unfolding number
-  short-refused some v =
-      refused-first {n = 6} (up-to-or (up-to-when LIST (lit≤ tt)) (up-to-when COUNT (lit≤ tt))) (from-when RANGE (lit≤ tt)) some v
-
-  -- LIST comes first
-  list-refused : (length l ≡ 0) ⊎ (length l % 2 ≡ 1) → Verdict (rawLines l) 4
-  unfolding number
-  list-refused x =
-      short-refused (lit≤ tt)
-      (refused-first {n = 4} (up-to-when LIST (lit≤ tt)) (from-when COUNT (lit≤ tt)) (lit≤ tt) (line-hit LIST x))
-
-  -- the list is empty
-  pub raw-empty : length l ≡ 0 → Verdict (rawLines l) 4
-  raw-empty h = list-refused (inl h)
-
-  -- its length is odd
-  pub raw-odd : length l % 2 ≡ 1 → Verdict (rawLines l) 4
-  raw-odd h = list-refused (inr h)
-
-  module _ (some : length l ≡ 0 → ⊥) (even : length l % 2 ≡ 1 → ⊥) where
-    -- LIST does not hold
-    list-passed : Verdict (LIST when ((length l ≡ 0) ⊎ (length l % 2 ≡ 1))) 0
-    list-passed = line-miss (λ h. ⊎-elim some even h)
-
-    -- there are over 64 buckets
-    pub raw-many : 128 < length l → Verdict (rawLines l) 5
-    unfolding number
-    raw-many h = short-refused (lit≤ tt) (refused-then list-passed (line-hit COUNT (omega (arith, buckets-use l))))
-
-    module _ (few : length l ≤ 128) where
-      -- COUNT does not hold
-      count-passed : Verdict (COUNT when (64 < length (buckets l))) 0
-      count-passed = line-miss (λ h. omega (arith, buckets-use l))
-
-      -- a rate or burst is out of range
-      pub raw-out-of-range : {answer : Bool} → Tells (AllInRange (buckets l)) answer → not answer ≡ true → Verdict (rawLines l) 6
-      unfolding number
-      raw-out-of-range t e =
-          refused-then (refused-then list-passed count-passed) (line-hit RANGE (t .no-means (not-true _ e)))
-
-      -- no line holds
-      pub raw-right : {answer : Bool} → Tells (AllInRange (buckets l)) answer → not answer ≡ false → Verdict (rawLines l) 0
-      raw-right t e =
-          refused-then (refused-then list-passed count-passed) (line-miss (λ out. out (t .yes-means (not-false _ e))))
-
-pub ruleset raw-lines = (raw-empty, raw-odd, raw-many, raw-out-of-range, raw-right)
-
--- ---- What it says of a list that no line holds.
+-- ---- The lines of a list of buckets, in the order of their numbers.
 
 -- where a test gives 0, none of its lines holds
 pub passed : {lines : Lines} {code : ℕ} → Verdict lines code → code ≡ 0 → Clear lines
@@ -90,33 +35,114 @@ module _ {a b : Lines} (clear : Clear (a or b)) where
   pub clear-second : Clear b
   clear-second r h = clear r (inr h)
 
-module _ (l : List ℕ) (clear : Clear (rawLines l)) where
-  -- every rate and burst is in its range
-  pub raw-ranges : AllInRange (buckets l)
-  raw-ranges = range-stable (λ out. clear RANGE (inr (refl, out)))
+module _ (numbers : ℕ) (l : List ℕ) (f : List Bucket) where
+  -- what LIST or COUNT refuses is refused, whatever the ranges
+  short-refused :
+      {code : ℕ} → 1 ≤ code → Verdict (LIST when (Uneven numbers l) or COUNT when (64 < length f)) code
+      → Verdict (listLines numbers l f) code
+  unfolding number
+  short-refused some v =
+      refused-first {n = 6} (up-to-or (up-to-when LIST (lit≤ tt)) (up-to-when COUNT (lit≤ tt))) (from-when RANGE (lit≤ tt)) some v
 
-  -- the length is even
-  pub raw-even : length l % 2 ≡ 0
-  raw-even = let odd : length l % 2 ≡ 1 → ⊥ = λ h. clear LIST (inl (inl (refl, inr h))) in omega (arith, odd)
+  -- LIST comes first
+  list-refused : Uneven numbers l → Verdict (listLines numbers l f) 4
+  unfolding number
+  list-refused x =
+      short-refused (lit≤ tt)
+      (refused-first {n = 4} (up-to-when LIST (lit≤ tt)) (from-when COUNT (lit≤ tt)) (lit≤ tt) (line-hit LIST x))
 
-  -- there is a bucket
-  pub raw-some : 2 ≤ length l
-  raw-some = let empty : length l ≡ 0 → ⊥ = λ h. clear LIST (inl (inl (refl, inl h))) in omega (arith, empty, raw-even)
+  -- the list is empty
+  pub list-empty : length l ≡ 0 → Verdict (listLines numbers l f) 4
+  list-empty h = list-refused (inl h)
 
-  -- there are at most 64
-  pub raw-few : length l ≤ 128
-  raw-few =
-      let few : length l < 129 = lt-of-not-le (λ many. clear COUNT (inl (inr (refl, omega (arith, buckets-use l, raw-even))))) in
-      omega arith
+  -- it does not come out even
+  pub list-uneven : (length l % numbers ≡ 0 → ⊥) → Verdict (listLines numbers l f) 4
+  list-uneven h = list-refused (inr h)
 
--- a curve that is not refused is in normal form
-pub curve-form : (l : List ℕ) → Clear (curveLines l) → NormalForm (buckets l)
-curve-form l clear = normal-stable (λ out. clear FORM (inr (refl, out)))
+  module _ (some : length l ≡ 0 → ⊥) (even : length l % numbers ≡ 0) where
+    -- LIST does not hold
+    list-passed : Verdict (LIST when (Uneven numbers l)) 0
+    list-passed = line-miss (λ h. ⊎-elim some (λ odd. odd even) h)
 
--- ---- The lines of a curve: those of a raw list, then FORM.
+    -- there are over 64 buckets
+    pub list-many : 64 < length f → Verdict (listLines numbers l f) 5
+    unfolding number
+    list-many h = short-refused (lit≤ tt) (refused-then list-passed (line-hit COUNT h))
+
+    module _ (few : length f ≤ 64) {answer : Bool} (t : Tells (AllInRange f) answer) where
+      -- LIST and COUNT do not hold
+      count-passed : Verdict (LIST when (Uneven numbers l) or COUNT when (64 < length f)) 0
+      count-passed = refused-then list-passed (line-miss (λ h. omega arith))
+
+      -- a rate or burst is out of range
+      pub list-out-of-range : not answer ≡ true → Verdict (listLines numbers l f) 6
+      unfolding number
+      list-out-of-range e = refused-then count-passed (line-hit RANGE (t .no-means (not-true _ e)))
+
+      -- no line holds
+      pub list-right : not answer ≡ false → Verdict (listLines numbers l f) 0
+      list-right e = refused-then count-passed (line-miss (λ out. out (t .yes-means (not-false _ e))))
+
+  -- What it says of a list that no line holds:
+  module _ (clear : Clear (listLines numbers l f)) where
+    -- every rate and burst is in its range,
+    pub list-ranges : AllInRange f
+    list-ranges = range-stable (λ out. clear RANGE (inr (refl, out)))
+
+    -- it comes out even,
+    pub list-even : length l % numbers ≡ 0
+    list-even = not-apart (λ h. clear LIST (inl (inl (refl, inr h))))
+
+    -- it is not empty,
+    pub list-filled : 1 ≤ length l
+    list-filled = not-above (λ h. clear LIST (inl (inl (refl, inl (omega arith)))))
+
+    -- and there are at most 64 buckets
+    pub list-few : length f ≤ 64
+    list-few = not-above (λ many. clear COUNT (inl (inr (refl, many))))
+
+-- ---- A raw list, of two numbers for each bucket.
+
+module _ (l : List ℕ) where
+  -- the list is empty
+  pub raw-empty : length l ≡ 0 → Verdict (rawLines l) 4
+  raw-empty = list-empty 2 l (buckets l)
+
+  -- its length is odd
+  pub raw-odd : length l % 2 ≡ 1 → Verdict (rawLines l) 4
+  raw-odd h = list-uneven 2 l (buckets l) (λ e. omega arith)
+
+  module _ (some : length l ≡ 0 → ⊥) (even : length l % 2 ≡ 1 → ⊥) where
+    evenly : length l % 2 ≡ 0
+    evenly = omega (arith, even)
+
+    -- there are over 64 buckets
+    pub raw-many : 128 < length l → Verdict (rawLines l) 5
+    raw-many h = list-many 2 l (buckets l) some evenly (omega (arith, buckets-use l, evenly))
+
+    module _ (few : length l ≤ 128) {answer : Bool} (t : Tells (AllInRange (buckets l)) answer) where
+      few-buckets : length (buckets l) ≤ 64
+      few-buckets = omega (arith, buckets-use l)
+
+      -- a rate or burst is out of range
+      pub raw-out-of-range : not answer ≡ true → Verdict (rawLines l) 6
+      raw-out-of-range = list-out-of-range 2 l (buckets l) some evenly few-buckets t
+
+      -- no line holds
+      pub raw-right : not answer ≡ false → Verdict (rawLines l) 0
+      raw-right = list-right 2 l (buckets l) some evenly few-buckets t
+
+pub ruleset raw-lines = (raw-empty, raw-odd, raw-many, raw-out-of-range, raw-right)
+
+-- ---- A curve: the lines of its list, then FORM.
+
+-- the list of a curve is one of the same numbers as a raw list
+as-raw : (l : List ℕ) {code : ℕ} → Verdict (rawLines l) code → Verdict (listLines width l (curveOf l)) code
+unfolding curveOf
+as-raw l v = v
 
 module _ (l : List ℕ) {code : ℕ} (v : Verdict (rawLines l) code) where
-  -- it is refused as a raw list
+  -- its list is refused
   pub curve-refused : (code ≡ 0 → ⊥) → Verdict (curveLines l) code
   unfolding number
   curve-refused some =
@@ -124,27 +150,44 @@ module _ (l : List ℕ) {code : ℕ} (v : Verdict (rawLines l) code) where
       (up-to-or (up-to-or (up-to-when LIST (lit≤ tt)) (up-to-when COUNT (lit≤ tt))) (up-to-when RANGE (lit≤ tt)))
       (from-when FORM (lit≤ tt))
       (omega (arith, some))
-      v
+      (as-raw l v)
 
   module _ (zero-code : code ≡ 0) where
     -- its rates and bursts are in range
-    pub curve-ranges : AllInRange (buckets l)
-    curve-ranges = raw-ranges l (passed v zero-code)
+    pub curve-ranges : AllInRange (curveOf l)
+    curve-ranges = list-ranges width l (curveOf l) (passed (as-raw l v) zero-code)
 
-    -- no line of a raw list holds
-    raw-passed : Verdict (rawLines l) 0
-    raw-passed = subst (Verdict (rawLines l)) zero-code v
+    -- no line of its list holds
+    list-accepted : Verdict (listLines width l (curveOf l)) 0
+    list-accepted = subst (Verdict (listLines width l (curveOf l))) zero-code (as-raw l v)
 
     -- it is not in normal form
-    pub curve-out-of-form : {answer : Bool} → Tells (NormalForm (buckets l)) answer → not answer ≡ true → Verdict (curveLines l) 7
+    pub curve-out-of-form : {answer : Bool} → Tells (NormalForm (curveOf l)) answer → not answer ≡ true → Verdict (curveLines l) 7
     unfolding number
-    curve-out-of-form t e = refused-then raw-passed (line-hit FORM (t .no-means (not-true _ e)))
+    curve-out-of-form t e = refused-then list-accepted (line-hit FORM (t .no-means (not-true _ e)))
 
     -- no line holds
-    pub curve-right : {answer : Bool} → Tells (NormalForm (buckets l)) answer → not answer ≡ false → Verdict (curveLines l) 0
-    curve-right t e = refused-then raw-passed (line-miss (λ out. out (t .yes-means (not-false _ e))))
+    pub curve-right : {answer : Bool} → Tells (NormalForm (curveOf l)) answer → not answer ≡ false → Verdict (curveLines l) 0
+    curve-right t e = refused-then list-accepted (line-miss (λ out. out (t .yes-means (not-false _ e))))
 
 pub ruleset curve-lines = (curve-refused, curve-ranges, curve-out-of-form, curve-right)
+
+-- What it says of a curve that no line holds:
+module _ (l : List ℕ) (clear : Clear (curveLines l)) where
+  list-lines : Clear (listLines width l (curveOf l))
+  list-lines = clear-first clear
+
+  -- every rate and burst is in its range,
+  pub curve-ranged : AllInRange (curveOf l)
+  curve-ranged = list-ranges width l (curveOf l) list-lines
+
+  -- there is a bucket,
+  pub curve-some : 1 ≤ length (curveOf l)
+  curve-some = omega (arith, list-filled width l (curveOf l) list-lines, list-even width l (curveOf l) list-lines, curve-use l)
+
+  -- and there are at most 64
+  pub curve-few : length (curveOf l) ≤ 64
+  curve-few = list-few width l (curveOf l) list-lines
 
 -- ---- A tick, and a link's rate.
 

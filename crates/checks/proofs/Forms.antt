@@ -4,129 +4,127 @@
 use mathlib.Core.Path.{_≡_, refl, sym, _∙_, ap}
 use mathlib.Core.Bool.{Bool, true, false, _&&_}
 use mathlib.Core.List.{List}
-use Prim.Native.Nat.{ℕ, _+_, _-_, _*_, _%_, _^_, _≤_, _<_}
+use Prim.Native.Nat.{ℕ, _+_, _-_, _*_, _^_, _≤_, _<_}
 use native.Mathlib.Nat.{le-of-lt, mul-le-mul, sub-eq-zero-of-le}
 use native.Mathlib.Omega.{arith}
-use lib.ListN.{length, getD, drop}
+use lib.ListN.{length, drop, drop-of-length-le}
+use lib.Seq.{drop-cons}
 use lib.Dec.{ltb}
 use borrow.Author.Tests.{lt-ltb, le-ltb}
 use mir.Syntax.{w64}
 use mir.Val.{Fits}
-use Rattle.meaning.specs.Curve.{Bucket, buckets, NormalForm}
-use Rattle.meaning.specs.Refusal.{AllInRange}
+use Rattle.meaning.specs.Curve.{Bucket, NormalForm}
+use Rattle.meaning.specs.Refusal.{InRange, AllInRange}
 use Rattle.meaning.specs.Computed.{crossingsRise, isNormal}
 use Rattle.meaning.proofs.curve.Neighbours.{neighbours-sound, neighbours-refute}
-use Rattle.checks.specs.Contracts.{Tells}
-use Rattle.checks.proofs.Buckets.{bucket-at, buckets-none, buckets-end, buckets-next, bucket-inside}
+use Rattle.meaning.proofs.Lists.{at-inside, empty-is}
+use Rattle.checks.specs.Contracts.{Tells, nth}
+use Rattle.checks.proofs.Buckets.{left-from}
 
 -- the neighbours' test tells normal form
 tells-normal : (f : List Bucket) (answer : Bool) → answer ≡ isNormal f → Tells (NormalForm f) answer
 tells-normal f answer e =
     record { yes-means = λ t. neighbours-sound f (sym e ∙ t); no-means = λ t. neighbours-refute f (sym e ∙ t) }
 
--- the bucket before the one at an index
-abbrev pub bucket-before : List ℕ → ℕ → Bucket
-bucket-before l i = record { rate = getD l (i - 2) 0; burst = getD l (i - 1) 0 }
+-- The bucket of two numbers.
+abbrev pub bucket : ℕ → ℕ → Bucket
+bucket rate burst = record { rate = rate; burst = burst }
 
--- by how much the burst rises from that bucket to the one at the index
-abbrev rise : List ℕ → ℕ → ℕ
-rise l i = getD l (i + 1) 0 - getD l (i - 1) 0
-
--- by how much the rate falls
-abbrev fall : List ℕ → ℕ → ℕ
-fall l i = getD l (i - 2) 0 - getD l i 0
-
--- x/y is the crossing of the bucket before i with the one before that; it and the buckets from i on decide.
-pub record Rising (l : List ℕ) (x y i : ℕ) : Type 0 where
-  pub inside : i ≤ length l
-  pub started : 2 ≤ i
-  pub even : i % 2 ≡ 0
+-- Of the buckets f, n in all, those before k are passed: x/y is the crossing of the last of them with the one before it, and with
+-- it the buckets from k on decide.
+pub record Rising (f : List Bucket) (n x y : ℕ) (before : Bucket) (k : ℕ) : Type 0 where
+  pub counted : n ≡ length f
+  pub inside : k ≤ n
   pub x-fits : x < 2 ^ 40
   pub y-fits : y < 2 ^ 20
-  pub ranges : AllInRange (buckets l)
-  pub decides : crossingsRise (bucket-before l i) x y (buckets (drop i l)) ≡ isNormal (buckets l)
+  pub ranges : AllInRange f
+  pub before-ranged : InRange before
+  pub decides : crossingsRise before x y (drop k f) ≡ isNormal f
 
--- a list without a bucket is out of normal form
-pub rise-none : (l : List ℕ) → length l < 2 → Tells (NormalForm (buckets l)) false
-unfolding isNormal
-rise-none l h = tells-normal (buckets l) false (rw (buckets-none l (omega arith)))
+module _ {f : List Bucket} {n : ℕ} (counted : n ≡ length f) where
+  -- a list without a bucket is out of normal form
+  pub rise-none : n ≡ 0 → Tells (NormalForm f) false
+  unfolding isNormal
+  rise-none h = tells-normal f false (rw (empty-is f (sym counted ∙ h)))
 
--- after the first bucket, with crossing 0/1
-pub rise-start : {l : List ℕ} → 2 ≤ length l → AllInRange (buckets l) → Rising l 0 1 2
-unfolding isNormal
-rise-start {l} h all =
-    record {
-      inside = h;
-      started = omega arith;
-      even = refl;
-      x-fits = omega arith;
-      y-fits = omega arith;
-      ranges = all;
-      decides = ap isNormal (sym (buckets-next l 0 h));
-    }
-
--- no bucket is left
-pub rise-end : {l : List ℕ} {x y i : ℕ} → Rising l x y i → length l ≤ i + 1 → Tells (NormalForm (buckets l)) true
-unfolding crossingsRise
-rise-end {l} {i = i} w h = tells-normal (buckets l) true (rw (buckets-end l i h) at (w .decides))
-
-module _ {l : List ℕ} {x y i : ℕ} (w : Rising l x y i) (h : i + 1 < length l) where
-  -- the neighbours' test at the bucket at hand
-  one-crossing :
-      (ltb (getD l i 0) (getD l (i - 2) 0)
-      && ltb (x * fall l i) (rise l i * y)
-      && crossingsRise (bucket-at l i) (rise l i) (fall l i) (buckets (drop (i + 2) l)))
-      ≡ isNormal (buckets l)
-  unfolding crossingsRise
-  one-crossing = ap (crossingsRise (bucket-before l i) x y) (sym (buckets-next l i h)) ∙ w .decides
-
-  -- the bucket at hand is the one before the next
-  next-before : bucket-before l (i + 2) ≡ bucket-at l i
-  next-before =
-      let first : i + 2 - 2 ≡ i = omega arith in
-      let second : i + 2 - 1 ≡ i + 1 = omega arith in
-      rw (first, second)
-
-  -- a rise is below 2^40 and a fall below 2^20, so that the products stay below 2^60
-  rise-fits : rise l i < 2 ^ 40
-  rise-fits = let r = w .ranges (bucket-at l i) (bucket-inside l i (w .even) h) in omega (arith, r .burst-fits)
-
-  fall-fits : fall l i < 2 ^ 20
-  fall-fits =
-      let m = bucket-inside l (i - 2) (omega (arith, w .even)) (omega (arith, w .started)) in
-      let r = w .ranges (bucket-at l (i - 2)) m in
-      omega (arith, r .rate-fits)
-
-  pub rise-by-y-fits : Fits w64 (rise l i * y)
-  rise-by-y-fits = record { fits = omega (arith, mul-le-mul (le-of-lt rise-fits) (le-of-lt (w .y-fits))) }
-
-  pub x-by-fall-fits : Fits w64 (x * fall l i)
-  x-by-fall-fits = record { fits = omega (arith, mul-le-mul (le-of-lt (w .x-fits)) (le-of-lt fall-fits)) }
-
-  -- the rate does not fall
-  pub rise-rate : getD l (i - 2) 0 ≤ getD l i 0 → Tells (NormalForm (buckets l)) false
-  rise-rate stays = tells-normal (buckets l) false (rw (le-ltb _ _ stays) at one-crossing)
-
-  module _ (falls : getD l i 0 < getD l (i - 2) 0) where
-    -- the crossing is no later than the one before
-    pub rise-crossing : rise l i * y ≤ x * fall l i → Tells (NormalForm (buckets l)) false
-    rise-crossing stays = tells-normal (buckets l) false (rw (lt-ltb _ _ falls, le-ltb _ _ stays) at one-crossing)
-
-    -- the burst does not rise
-    pub rise-burst : getD l (i + 1) 0 ≤ getD l (i - 1) 0 → Tells (NormalForm (buckets l)) false
-    rise-burst stays = rise-crossing (rw (sub-eq-zero-of-le stays) (omega arith))
-
-    -- the crossing is later
-    pub rise-step : x * fall l i < rise l i * y → Rising l (rise l i) (fall l i) (i + 2)
-    rise-step later =
+  module _ (some : n ≡ 0 → ⊥) (all : AllInRange f) {first : Bucket} (is : first ≡ nth f 0) where
+    -- after the first bucket, with crossing 0/1
+    pub rise-start : Rising f n 0 1 first 1
+    unfolding isNormal
+    rise-start =
+        let filled : 0 < length f = omega (arith, some, counted) in
         record {
-          inside = omega arith;
-          started = omega arith;
-          even = omega (arith, w .even);
-          x-fits = rise-fits;
-          y-fits = fall-fits;
-          ranges = w .ranges;
-          decides = rw next-before (rw (lt-ltb _ _ falls, lt-ltb _ _ later) at one-crossing);
+          counted = counted;
+          inside = omega (arith, some);
+          x-fits = omega arith;
+          y-fits = omega arith;
+          ranges = all;
+          before-ranged = rw is (all (nth f 0) (at-inside f 0 _ filled));
+          decides = rw is (ap isNormal (sym (drop-cons f 0 _ filled)));
         }
+
+module _ {f : List Bucket} {n x y k rate-before burst-before : ℕ} (w : Rising f n x y (bucket rate-before burst-before) k) where
+  -- no bucket is left
+  pub rise-end : n ≤ k → Tells (NormalForm f) true
+  unfolding crossingsRise
+  rise-end h =
+      let all : length f ≤ k = omega (arith, w .counted) in
+      tells-normal f true (rw (drop-of-length-le f all) at (w .decides))
+
+  module _ (more : k < n) {rate burst : ℕ} (is : bucket rate burst ≡ nth f k) where
+    inside : k < length f
+    inside = omega (arith, w .counted)
+
+    -- the neighbours' test at the bucket at hand
+    one-crossing :
+        (ltb (rate) (rate-before)
+        && ltb (x * (rate-before - rate)) ((burst - burst-before) * y)
+        && crossingsRise (bucket rate burst) (burst - burst-before) (rate-before - rate) (drop (k + 1) f))
+        ≡ isNormal f
+    unfolding crossingsRise
+    one-crossing = ap (crossingsRise (bucket rate-before burst-before) x y) (sym (left-from f k inside is)) ∙ w .decides
+
+    here-ranged : InRange (bucket rate burst)
+    here-ranged = rw is (w .ranges (nth f k) (at-inside f k _ inside))
+
+    -- a rise is below 2^40 and a fall below 2^20, so that the products stay below 2^60
+    pub rise-by-y-fits : Fits w64 ((burst - burst-before) * y)
+    rise-by-y-fits =
+        let rises : burst - burst-before ≤ 2 ^ 40 = omega (arith, here-ranged .burst-fits) in
+        record { fits = omega (arith, mul-le-mul rises (le-of-lt (w .y-fits))) }
+
+    pub x-by-fall-fits : Fits w64 (x * (rate-before - rate))
+    x-by-fall-fits =
+        let falls : rate-before - rate ≤ 2 ^ 20 = omega (arith, w .before-ranged .rate-fits) in
+        record { fits = omega (arith, mul-le-mul (le-of-lt (w .x-fits)) falls) }
+
+    -- the rate does not fall
+    pub rise-rate : rate-before ≤ rate → Tells (NormalForm f) false
+    rise-rate stays = tells-normal f false (rw (le-ltb _ _ stays) at one-crossing)
+
+    module _ (falls : rate < rate-before) where
+      -- the crossing is no later than the one before
+      pub rise-crossing :
+          (burst - burst-before) * y ≤ x * (rate-before - rate) → Tells (NormalForm f) false
+      rise-crossing stays = tells-normal f false (rw (lt-ltb _ _ falls, le-ltb _ _ stays) at one-crossing)
+
+      -- the burst does not rise
+      pub rise-burst : burst ≤ burst-before → Tells (NormalForm f) false
+      rise-burst stays = rise-crossing (rw (sub-eq-zero-of-le stays) (omega arith))
+
+      -- the crossing is later
+      pub rise-step :
+          x * (rate-before - rate) < (burst - burst-before) * y
+          → Rising f n (burst - burst-before) (rate-before - rate) (bucket rate burst) (k + 1)
+      rise-step later =
+          record {
+            counted = w .counted;
+            inside = omega arith;
+            x-fits = omega (arith, here-ranged .burst-fits);
+            y-fits = omega (arith, w .before-ranged .rate-fits);
+            ranges = w .ranges;
+            before-ranged = here-ranged;
+            decides = rw (lt-ltb _ _ falls, lt-ltb _ _ later) at one-crossing;
+          }
 
 pub ruleset rising = (rise-none, rise-start, rise-rate, rise-burst, rise-crossing, rise-step, rise-by-y-fits, x-by-fall-fits, rise-end)

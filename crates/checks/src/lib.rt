@@ -5,9 +5,16 @@ pub mod limits;
 ghost use mathlib.Core.Path.{_≡_};
 ghost use Rattle.meaning.specs.CurveQuestions.{tickLine, linkLine};
 ghost use Rattle.meaning.specs.Refusal.{Verdict, rawLines, curveLines, AllInRange, AllWithin};
-ghost use Rattle.meaning.specs.Curve.{buckets, NormalForm};
+ghost use lib.ListN.{length};
+ghost use Rattle.meaning.specs.Curve.{buckets, curveOf, NormalForm};
 ghost use Rattle.meaning.specs.Computed.{earlier};
-ghost use Rattle.checks.specs.Contracts.{Tells};
+ghost use Rattle.checks.specs.Contracts.{Tells, bucketOf, nth};
+
+// A bucket.
+pub struct Bucket {
+    pub rate: u64,
+    pub burst: u64,
+}
 
 // The smaller of two codes, where 0 is none.
 pub fn earlier(a: u64, b: u64) -> u64
@@ -42,23 +49,47 @@ pub fn within(list: &[u64], rates: u64, bursts: u64) -> bool
     true
 }
 
-// Whether the list is in normal form, by its neighbours: rates fall, and each crossing comes after the one before. x/y is the
-// crossing of the bucket at hand with the one before it, 0/1 at the first.
-fn in_form(list: &[u64]) -> bool
-    requires { ⌜ AllInRange (buckets (now list)) ⌝ }
-    ensures { λ r. ⌜ Tells (NormalForm (buckets (now (list .entry)))) r ⌝ }
+// How many buckets a curve's list has.
+pub fn bucket_count(curve: &[u64]) -> usize
+    ensures { λ r. ⌜ r ≡ length (curveOf (now (curve .entry))) ⌝ }
 {
-    if list.len() < 2 {
+    curve.len() / limits::BUCKET_NUMBERS
+}
+
+// The bucket numbered k, from 0, of a curve's list; (0, 0) where there is none.
+pub fn bucket_at(curve: &[u64], k: usize) -> Bucket
+    ensures { λ r. ⌜ bucketOf r ≡ nth (curveOf (now (curve .entry))) k ⌝ }
+{
+    if curve.len() / limits::BUCKET_NUMBERS <= k {
+        return Bucket { rate: 0, burst: 0 };
+    }
+    let at = limits::BUCKET_NUMBERS * k;
+    Bucket {
+        rate: curve[at],
+        burst: curve[at + 1],
+    }
+}
+
+// Whether a curve's list is in normal form, by its neighbours: rates fall, and each crossing comes after the one before. x/y is
+// the crossing of the bucket before with the one before that, 0/1 at the first.
+fn in_form(curve: &[u64]) -> bool
+    requires { ⌜ AllInRange (curveOf (now curve)) ⌝ }
+    ensures { λ r. ⌜ Tells (NormalForm (curveOf (now (curve .entry)))) r ⌝ }
+{
+    let count = bucket_count(curve);
+    if count == 0 {
         return false;
     }
+    let first = bucket_at(curve, 0);
+    let mut rate_before = first.rate;
+    let mut burst_before = first.burst;
     let mut x = 0;
     let mut y = 1;
-    let mut i = 2;
-    while i + 1 < list.len() {
-        let rate = list[i];
-        let burst = list[i + 1];
-        let rate_before = list[i - 2];
-        let burst_before = list[i - 1];
+    let mut k = 1;
+    while k < count {
+        let here = bucket_at(curve, k);
+        let rate = here.rate;
+        let burst = here.burst;
         if rate_before <= rate {
             return false;
         }
@@ -70,9 +101,11 @@ fn in_form(list: &[u64]) -> bool
         if rise * y <= x * fall {
             return false;
         }
+        rate_before = rate;
+        burst_before = burst;
         x = rise;
         y = fall;
-        i += 2;
+        k += 1;
     }
     true
 }
@@ -97,7 +130,7 @@ pub fn raw(list: &[u64]) -> u64
     0
 }
 
-// The refusal of a curve, which is in normal form, or 0.
+// The refusal of a curve, which is in normal form, or 0. (Its list has the numbers of a raw list.)
 pub fn curve(list: &[u64]) -> u64
     ensures { λ r. ⌜ Verdict (curveLines (now (list .entry))) r ⌝ }
 {

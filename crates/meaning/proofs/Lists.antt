@@ -132,8 +132,11 @@ drop-behind x y rest n same h = past x (omega arith) ∙ sym (past y (omega arit
     past : (l : List ℕ) → n ≡ length l + (n - length x) → drop n (l ++ rest) ≡ drop (n - length x) rest
     past l e = ap (λ (m : ℕ). drop m (l ++ rest)) e ∙ drop-append-add l rest (n - length x)
 
--- there is one empty list
+-- a list of length 0 is empty,
+pub empty-is : {A : Type 0} (l : List A) → length l ≡ 0 → l ≡ []
+empty-is [] h = refl
+empty-is (x ∷ l) h = absurd (omega arith)
+
+-- so two such lists are the same
 pub empty-same : (x y : List ℕ) → length x ≡ 0 → length y ≡ 0 → x ≡ y
-empty-same [] [] h h′ = refl
-empty-same [] (b ∷ y) h h′ = absurd (omega arith)
-empty-same (a ∷ x) y h h′ = absurd (omega arith)
+empty-same x y h h′ = empty-is x h ∙ sym (empty-is y h′)
