@@ -1,0 +1,125 @@
+-- Buckets handed over as they stand, refusal by refusal, then the curve in the part of the table.
+-- Assumes nothing.
+use mathlib.Core.Path.{_≡_, refl, sym, _∙_, ap}
+use mathlib.Core.Bool.{Bool, true, false, not}
+use mathlib.Core.Logic.{inl, inr, ⊎-elim}
+use mathlib.Core.List.{List, _++_}
+use Prim.Native.Nat.{ℕ, _/_, _%_, _≤_, _<_}
+use native.Mathlib.Omega.{arith}
+use borrow.Author.Tests.{not-true, not-false}
+use lib.Dec.{lit≤}
+use lib.ListN.{length}
+use Rattle.meaning.specs.Curve.{Bucket, buckets, listOf}
+use Rattle.meaning.specs.Refusal.{LIST, number, Clear, AllWithin, TooLarge, Uneven, over, Question, Outcome, part, PartOutcome}
+use Rattle.meaning.proofs.Lists.{buckets-use}
+use Rattle.meaning.proofs.outcome.Outcomes.{Single, Same, one-part-outcome, up-to-when, line-hit, three-parts, refuse-in-part, too-large, no-room, written-out}
+use Rattle.checks.specs.Contracts.{Tells}
+use Rattle.checks.proofs.Buckets.{buckets-count, flat-buckets}
+use Rattle.settle.specs.Contracts.{delivering, Placed}
+use Rattle.settle.proofs.Placing.{part-after, outside-after}
+
+-- a refusal leaves the table as it is
+pub untouched :
+    {ask : Question} {at room : ℕ} {table : List ℕ} {code : ℕ}
+    → Outcome ask (part at room table) (part at room table) code 0 → PartOutcome ask at room table table code 0
+untouched {at = at} {room = room} {table = table} o = record { inside = o; outside = three-parts at room table }
+
+-- only these buckets are the answer
+single-delivery : (pairs : List ℕ) → Single (delivering pairs .Answer)
+unfolding delivering
+single-delivery pairs f g e e′ = e ∙ sym e′
+
+-- buckets that come out even are handed over
+pub delivery-clear : (pairs : List ℕ) → (Uneven 2 pairs → ⊥) → Clear (delivering pairs .operands)
+unfolding delivering
+delivery-clear pairs even r h = even (h .1)
+
+delivery-right : (pairs : List ℕ) → delivering pairs .Answer (buckets pairs)
+unfolding delivering
+delivery-right pairs = refl
+
+module _ (pairs : List ℕ) (some : length pairs ≡ 0 → ⊥) (even : length pairs % 2 ≡ 1 → ⊥) where
+  evenly : length pairs % 2 ≡ 0
+  evenly = omega (arith, even)
+
+  clear : Clear (delivering pairs .operands)
+  clear = delivery-clear pairs (λ h. ⊎-elim some (λ odd. odd evenly) h)
+
+  -- the curve's list is the pairs
+  numbers-are : listOf (buckets pairs) ≡ pairs
+  unfolding listOf
+  numbers-are = flat-buckets pairs evenly
+
+  -- there is something to place
+  pub delivery-some : 1 ≤ length pairs
+  delivery-some = omega (arith, some)
+
+-- buckets that are few and in range are not too large
+not-large :
+    (pairs : List ℕ) {answer : Bool} → length pairs ≤ 128 → Tells (AllWithin 1048576 1099511627776 (buckets pairs)) answer
+    → not answer ≡ false → TooLarge (buckets pairs) → ⊥
+not-large pairs few t fits (inl many) = omega (arith, buckets-use pairs)
+not-large pairs {answer} few t fits (inr out-of) = out-of (t .yes-means (not-false answer fits))
+
+module _ (pairs : List ℕ) {at room : ℕ} {table : List ℕ} where
+  -- they do not come out even
+  uneven : Uneven 2 pairs → PartOutcome (delivering pairs) at room table table 4 0
+  unfolding delivering number
+  uneven h = refuse-in-part (delivering pairs) at room table (up-to-when LIST (lit≤ tt)) (lit≤ tt) (line-hit LIST h)
+
+  -- there is none
+  pub delivered-none : length pairs ≡ 0 → PartOutcome (delivering pairs) at room table table 4 0
+  delivered-none h = uneven (inl h)
+
+  -- there is half of one
+  pub delivered-half : length pairs % 2 ≡ 1 → PartOutcome (delivering pairs) at room table table 4 0
+  delivered-half h = uneven (inr (λ e. omega arith))
+
+  module _ (some : length pairs ≡ 0 → ⊥) (even : length pairs % 2 ≡ 1 → ⊥) where
+    -- there are over 64
+    pub delivered-many : 128 < length pairs → PartOutcome (delivering pairs) at room table table 9 0
+    delivered-many h =
+        untouched (too-large (delivering pairs) _ (clear pairs some even) (delivery-right pairs) (inl (omega (arith, buckets-use pairs, evenly pairs some even))))
+
+    module _ (few : length pairs ≤ 128) {answer : Bool} (t : Tells (AllWithin 1048576 1099511627776 (buckets pairs)) answer) where
+      -- one is out of range
+      pub delivered-large : not answer ≡ true → PartOutcome (delivering pairs) at room table table 9 0
+      delivered-large n =
+          untouched (too-large (delivering pairs) _ (clear pairs some even) (delivery-right pairs) (inr (t .no-means (not-true answer n))))
+
+      module _
+          (fits : not answer ≡ false) {after : List ℕ} {written : Bool} (p : Placed pairs at room table after written)
+        where
+          -- the part is too short
+          pub delivered-short : not written ≡ true → PartOutcome (delivering pairs) at room table after 10 0
+          delivered-short n =
+              rw (p .stays (not-true written n))
+              (untouched
+              (no-room (delivering pairs) _ (clear pairs some even) (delivery-right pairs) (single-delivery pairs) (not-large pairs few t fits)
+              (rw (numbers-are pairs some even) (p .short (not-true written n)))))
+
+          -- the curve stands in the part
+          pub delivered : not written ≡ false → PartOutcome (delivering pairs) at room table after 0 (length pairs / 2)
+          delivered n =
+              record {
+                inside = rw (part-after p (not-false written n) (delivery-some pairs some even)) stands;
+                outside = outside-after p (not-false written n) (delivery-some pairs some even);
+              }
+            where
+              stands :
+                  Outcome (delivering pairs) (part at room table) (over pairs (part at room table)) 0 (length pairs / 2)
+              stands =
+                  rw (← buckets-count pairs)
+                  (rw (numbers-are pairs some even) at
+                  (written-out (delivering pairs) (part at room table) (clear pairs some even) (delivery-right pairs) (single-delivery pairs) (not-large pairs few t fits)
+                  (rw (numbers-are pairs some even) (p .fits (not-false written n)))))
+
+pub ruleset delivers =
+    (delivered-none, delivered-half, delivered-many, delivery-some, delivered-large, delivered-short, delivered)
+
+-- One outcome for every input: the code, the count and the whole table are fixed.
+pub one-delivering :
+    (pairs : List ℕ) {at room : ℕ} {table after after′ : List ℕ} {code count code′ count′ : ℕ}
+    → PartOutcome (delivering pairs) at room table after code count
+    → PartOutcome (delivering pairs) at room table after′ code′ count′ → Same code count code′ count′ after after′
+one-delivering pairs v w = one-part-outcome (single-delivery pairs) v w
