@@ -12,9 +12,9 @@ use Rattle.meaning.specs.Curve.{Bucket, buckets, flat, pairs, valueAt, C
 use Rattle.meaning.specs.Server.{Server, join, last, Behind, Backlog, Delay}
 use Rattle.meaning.specs.Refusal.{Clear, curveLines, TooLarge}
 use Rattle.meaning.specs.ServerQuestions.{ServerInRange, portLines, BacklogOutcome, DelayOutcome}
-use Rattle.meaning.specs.Profile.{bitsOf, spelt, packed, fileBits, bytesOf, Profile, curve, server, kindOf, bucketFields, fields, profileBits, byteCount, written, field, bucketsIn, profileOf}
+use Rattle.meaning.specs.Profile.{bitsOf, spelt, packed, fileBits, bytesOf, edition, Profile, curve, server, bucketFields, fields, profileBits, byteCount, written, field, bucketsIn, editionOf, kindIn, profileOf, bytesTaken}
 use Rattle.meaning.specs.Computed.{isNormal, normal, behind, backlog, delay, residual}
-use Rattle.meaning.specs.Route.{bytes, firstFile, afterFirst, dueLines, joinLines, joinedWith, hopLines, Figures, FiguresOf, Report, Onward, Reported, text}
+use Rattle.meaning.specs.Route.{bytes, firstFile, afterFirst, IsCurve, IsServer, dueLines, joinLines, joinedWith, hopLines, Figures, FiguresOf, Report, Onward, Reported, text}
 use Rattle.meaning.specs.Figures.{C, port, Table}
 use Rattle.meaning.proofs.curve.Normal.{normal-is}
 use Rattle.meaning.proofs.outcome.Outcomes.{clear-or}
@@ -24,7 +24,8 @@ use Rattle.meaning.proofs.server.HopByHop.{behind-unique}
 use Rattle.meaning.proofs.server.Behind.{behind-is, backlog-is}
 use Rattle.meaning.proofs.server.Delay.{delay-is}
 use Rattle.meaning.proofs.server.Joining.{residual-is}
-use Rattle.meaning.proofs.profile.Profiles.{ReadsBack, read-back-curve, read-back-server, server-bytes}
+use Rattle.meaning.proofs.profile.Files.{server-bytes}
+use Rattle.meaning.proofs.profile.RoundTrip.{ReadsBack, read-back-curve, read-back-server}
 
 -- A list of numbers that no line of a curve refuses.
 record Sound (l : List ℕ) : Type 0 where
@@ -39,21 +40,21 @@ one-bucket : (r b : ℕ) → (r < 2 ^ 20) × (b < 2 ^ 40) → Sound (r ∷ b ∷
 unfolding buckets isNormal
 one-bucket r b h = record { clear = curve-clear (r ∷ b ∷ []) (omega arith) refl }
 
--- An input begins with a profile: the header has its kind, the profile is it, its bytes are its file, and then comes the rest.
+-- An input begins with a profile: it holds the profile, its bytes are the profile's file, and then comes the rest.
 record Begins (input : List ℕ) (p : Profile) (rest : List ℕ) : Type 0 where
-  kind : field input 4 4 ≡ kindOf p
   holds : profileOf input ≡ p
-  file : firstFile input ≡ written p
+  file : firstFile input ≡ written edition p
   after : afterFirst input ≡ rest
 
 -- so none of the lines of what is due holds, and the input has not ended
 module _ {input rest : List ℕ} where
-  due-clear : {p : Profile} → ReadsBack p → Begins input p rest → Clear (dueLines (kindOf p) input)
-  due-clear back b = clear-or (λ r h. h .1 (b .kind)) (rw (b .file) (back .clear))
+  due-clear : {p : Profile} (Due : Profile → Type 0) → Due p → ReadsBack p → Begins input p rest → Clear (dueLines Due input)
+  due-clear Due due back b = clear-or (λ r h. h .1 (rw (b .holds) due)) (rw (b .file) (back .clear))
 
   not-empty : {s : Server} → Begins input (server s) rest → input ≡ [] → ⊥
   unfolding firstFile
-  not-empty {s} b e = omega (arith, server-bytes s, ap length (b .file), length-take (byteCount (profileOf input)) input, ap length e)
+  not-empty {s} b e =
+      omega (arith, server-bytes edition s, ap length (b .file), length-take (bytesTaken input) input, ap length e)
 
 -- a server joins those before it in range
 join-clear : {before s : Server} → ServerInRange before → ServerInRange s → ServerInRange (join before s) → Clear (joinLines (some before) s)
@@ -76,7 +77,7 @@ module _
     hop-clear : Clear (hopLines f before input)
     hop-clear =
         rw (b .holds)
-        (clear-or (clear-or (clear-or (due-clear (read-back-server s (p .ranged)) b) (p .clear)) (p .joins))
+        (clear-or (clear-or (clear-or (due-clear IsServer tt (read-back-server s (p .ranged)) b) (p .clear)) (p .joins))
         (λ r h. p .fits (subst TooLarge (behind-unique (h .1 .1) (p .curve)) (h .1 .2))))
 
     pass :
@@ -92,7 +93,7 @@ first-curve :
     → Onward (buckets l) [] none (buckets l) rest report → Reported input report
 first-curve {l} c b on =
     let fits = clear-fits l (c .clear) in
-    Reported.from-curve (due-clear (read-back-curve _ (clear-form l (c .clear)) (fits-ranged fits) (fits-few fits)) b)
+    Reported.from-curve (due-clear IsCurve tt (read-back-curve _ (clear-form l (c .clear)) (fits-ranged fits) (fits-few fits)) b)
     (rw (b .holds, b .after) on)
 
 -- a hop of numbers: a curve and a server, with the figures and the curve behind
@@ -121,7 +122,7 @@ worked {l} s c slow some-rate =
 
 -- the figures P1 to P12
 pub table : Table
-unfolding buckets flat pairs normal last valueAt behind backlog delay residual join written byteCount profileBits fields bucketFields packed bitsOf spelt bytesOf field fileBits bucketsIn profileOf firstFile afterFirst bytes text BacklogOutcome DelayOutcome
+unfolding buckets flat pairs normal last valueAt behind backlog delay residual join written byteCount profileBits fields bucketFields packed bitsOf spelt bytesOf field fileBits bucketsIn editionOf kindIn profileOf bytesTaken firstFile afterFirst bytes text BacklogOutcome DelayOutcome
 table =
     let c-first = worked (port 6 4) c-sound (lit≤ tt) (lit≤ tt) in
     let c32 = one-bucket 3 32 (omega arith) in
@@ -153,11 +154,11 @@ table =
         record {
           report = _;
           reported =
-              first-curve c-sound (record { kind = refl; holds = refl; file = refl; after = refl })
-              (pass {s = port 6 4} (record { kind = refl; holds = refl; file = refl; after = refl })
+              first-curve c-sound (record { holds = refl; file = refl; after = refl })
+              (pass {s = port 6 4} (record { holds = refl; file = refl; after = refl })
               (passes c-sound c32 (omega arith) (lit≤ tt) refl (λ r h. h) c-first)
               (lit≤ tt)
-              (pass {s = port 5 2} (record { kind = refl; holds = refl; file = refl; after = refl })
+              (pass {s = port 5 2} (record { holds = refl; file = refl; after = refl })
               (passes c32 (one-bucket 3 38 (omega arith)) (omega arith) (lit≤ tt) refl
               (join-clear (omega arith) (omega arith) (omega arith)) second)
               (lit≤ tt)

@@ -14,13 +14,13 @@ use lib.ListN.{length, getD}
 use Rattle.meaning.specs.Curve.{Bucket, _∈_, bucketAt, Falling, Useful, NormalForm, Crossing, reads, numbered}
 use Rattle.meaning.specs.Server.{Server, Instant, served, GreatestGap, Excess, Backlog}
 use Rattle.meaning.specs.Refusal.{AllInRange}
-use Rattle.meaning.specs.Profile.{written, field, profileOf, curve, bucketsOf}
+use Rattle.meaning.specs.Profile.{written, curveKind, kindIn, profileOf, curve, bucketsOf}
 use Rattle.meaning.proofs.Order.{le-or-lt, lt-or-eq-or-gt}
 use Rattle.meaning.proofs.Lists.{at-inside, falling-at}
 use Rattle.meaning.proofs.curve.Value.{same-rate, value-least, value-reached}
 use Rattle.meaning.proofs.curve.Neighbours.{meet, meet-at, below-rises}
 use Rattle.meaning.proofs.server.Joining.{served-past}
-use Rattle.meaning.proofs.profile.Profiles.{curve-bytes, held-curve, held-server, buckets-in-range}
+use Rattle.meaning.proofs.profile.Files.{curve-bytes, held-curve, held-server, buckets-in-range}
 
 -- ---- Normal form: every other bucket is every bucket at another position.
 
@@ -223,22 +223,23 @@ module _ (f : List Bucket) (k p q : ℕ) where
 
 -- ---- The profile file.
 
--- a curve of one bucket has 10 bytes,
-pub one-bucket-bytes : (f : List Bucket) → length f ≡ 1 → length (written (curve f)) ≡ 10
-one-bucket-bytes f e = omega (arith, curve-bytes f)
+module _ (ed : ℕ) (f : List Bucket) where
+  -- a curve of one bucket has 10 bytes,
+  pub one-bucket-bytes : length f ≡ 1 → length (written ed (curve f)) ≡ 10
+  one-bucket-bytes e = omega (arith, curve-bytes ed f)
 
--- one of two has 17,
-pub two-bucket-bytes : (f : List Bucket) → length f ≡ 2 → length (written (curve f)) ≡ 17
-two-bucket-bytes f e = omega (arith, curve-bytes f)
+  -- one of two has 17,
+  pub two-bucket-bytes : length f ≡ 2 → length (written ed (curve f)) ≡ 17
+  two-bucket-bytes e = omega (arith, curve-bytes ed f)
 
--- and one of 64 has 482
-pub longest-bytes : (f : List Bucket) → length f ≡ 64 → length (written (curve f)) ≡ 482
-longest-bytes f e = omega (arith, curve-bytes f)
+  -- and one of 64 has 482
+  pub longest-bytes : length f ≡ 64 → length (written ed (curve f)) ≡ 482
+  longest-bytes e = omega (arith, curve-bytes ed f)
 
 -- the buckets that a file holds are in range
 pub read-in-range : (file : List ℕ) → AllInRange (bucketsOf (profileOf file))
 read-in-range file =
-    elim (ℕ-discrete (field file 4 4) 1) [
+    elim (ℕ-discrete (kindIn file) curveKind) [
       | yes e ↦ rw (held-curve file e) (buckets-in-range file 14 _)
       | no e ↦ rw (held-server file e) (λ k m. elim m [ ])
     ]
