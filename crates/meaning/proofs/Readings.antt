@@ -137,7 +137,7 @@ pub record SmallestBurst (f : List Bucket) (n : ℕ) : Type 0 where
 
 -- the value at tick 0 is the smallest burst
 pub value-at-zero : (f : List Bucket) → 1 ≤ length f → SmallestBurst f (reads f 0)
-unfolding bucketAt
+unfolding bucketAt reads
 value-at-zero f h =
     let r = value-reached f 0 1 h in
     record {
@@ -198,16 +198,18 @@ abbrev pub CrossingTime : List Bucket → ℕ → ℕ → ℕ → Type 0
 CrossingTime f k p q =
     (numbered f k .burst - numbered f (k - 1) .burst) * q ≡ (numbered f (k - 1) .rate - numbered f k .rate) * p
 
-module _ (f : List Bucket) (k p q : ℕ) where
+module _ (f : List Bucket) (k p q : ℕ) (second : 2 ≤ k) (inside : k ≤ length f) (some : 0 < q) where
   -- where the rate does not rise nor the burst fall from bucket k-1 to bucket k, their crossing is at that time
   pub crossing-time :
       numbered f k .rate ≤ numbered f (k - 1) .rate → numbered f (k - 1) .burst ≤ numbered f k .burst
       → Crossing f k p q ↔ CrossingTime f k p q
-  crossing-time falls rises = meet-at (meet (numbered f (k - 1)) (numbered f k) falls rises) p q
+  crossing-time falls rises =
+      let met = meet-at (meet (numbered f (k - 1)) (numbered f k) falls rises) p q in
+      (λ c. met .0 (c .meets), λ e. record { from-second = second; inside = inside; q-positive = some; meets = met .1 e })
 
   -- so it is for every two neighbours in normal form
-  pub normal-crossing : NormalForm f → 1 < k → k ≤ length f → Crossing f k p q ↔ CrossingTime f k p q
-  normal-crossing n h l = crossing-time (le-of-lt falls) (le-of-lt rises)
+  pub normal-crossing : NormalForm f → Crossing f k p q ↔ CrossingTime f k p q
+  normal-crossing n = crossing-time (le-of-lt falls) (le-of-lt rises)
     where
       by : NormalAt f
       by = normal-by-position f .0 n

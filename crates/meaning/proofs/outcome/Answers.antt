@@ -14,13 +14,12 @@ use lib.ListN.{length, take, drop, length-take}
 use lib.Seq.{take-take}
 use Rattle.meaning.specs.Curve.{Bucket, buckets, width, curveOf, listOf, bucketAt, valueAt, value, NormalForm, NormalOf, pairs, linkBucket}
 use Rattle.meaning.specs.Refusal.{Refusal, LIST, COUNT, RANGE, FORM, LARGE, ROOM, number, Lines, _or_, Wins, Clear, Verdict, accepted, rejected, AllInRange, listLines, rawLines, curveLines, TooLarge, over, Answered, Question, allLines, Outcome, part, PartOutcome, FigureOutcome}
-use Rattle.meaning.specs.CurveQuestions.{normalising, lowering, summing, linkLine, shaping, ValueOutcome}
-use Rattle.meaning.specs.Computed.{isNormal, normal}
+use Rattle.meaning.specs.CurveQuestions.{normalising, lowering, summing, shaping, ValueOutcome}
+use Rattle.meaning.specs.Computed.{isNormal}
 use Rattle.meaning.proofs.Order.{le-or-lt, not-above, not-apart}
 use Rattle.meaning.proofs.curve.Unique.{normal-of-unique}
 use Rattle.meaning.proofs.curve.Neighbours.{neighbours-sound}
 use Rattle.meaning.proofs.outcome.Stable.{range-stable, normal-stable}
-use Rattle.meaning.proofs.curve.Normal.{normal-is}
 use Rattle.meaning.proofs.curve.Curves.{value-both, value-pairs}
 use Rattle.meaning.proofs.outcome.Outcomes.{number-positive, clear-or, wins-once, Same, Single, one-outcome, one-part-outcome, one-figure, UpTo, up-to-when, up-to-or, no-room, written-out}
 use Rattle.meaning.proofs.Lists.{buckets-use, curve-use, list-length, curve-list, EachInRange, all-in-range, over-start, over-beyond, over-length}
@@ -354,6 +353,19 @@ list-clear {f = f} t r (inr h) = h .1 (all-in-range f (t .ranged))
 -- none of a curve's lines holds of one that passes the test of normal form
 pub curve-clear : (l : List ℕ) → Taken width l (curveOf l) → isNormal (curveOf l) ≡ true → Clear (curveLines l)
 curve-clear l t form = clear-or (list-clear t) (λ r h. h .1 (neighbours-sound (curveOf l) form))
+
+-- none holds of the list of a curve in normal form that is not too large
+pub sound-clear : (f : List Bucket) → NormalForm f → (length f ≤ 64) × EachInRange f → Clear (curveLines (listOf f))
+sound-clear f form fits = clear-or (list-clear taken) (λ r h. h .1 (rw curve-list form))
+  where
+    taken : Taken width (listOf f) (curveOf (listOf f))
+    taken =
+        record {
+          filled = omega (arith, list-length f, form .some);
+          even = omega (arith, list-length f);
+          few = rw curve-list (fits .0);
+          ranged = rw curve-list (fits .1);
+        }
 
 -- The only outcomes of a question: where the list has room, code 0, this count, and these numbers written from its start; where
 -- it has not, ROOM.
