@@ -3,3 +3,4 @@ pub mod Bits
 pub mod Fields
 pub mod Files
 pub mod RoundTrip
+pub mod Outcomes
