@@ -3,5 +3,5 @@ pub mod Bits
 pub mod Fields
 pub mod Files
 pub mod RoundTrip
-pub mod Decided
 pub mod Outcomes
+pub mod Decided

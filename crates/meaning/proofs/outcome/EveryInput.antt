@@ -14,7 +14,7 @@ use lib.Dec.{lit≤}
 use Rattle.meaning.specs.Curve.{Bucket, buckets, width, curveOf, listOf, value, NormalOf, linkBucket}
 use Rattle.meaning.specs.Server.{Server, noServer, join, last}
 use Rattle.meaning.specs.CurveQuestions.{normalising, lowering, summing, shaping, ValueOutcome}
-use Rattle.meaning.specs.Refusal.{Refusal, LIST, COUNT, RANGE, FORM, UNBOUNDED, LARGE, number, Lines, _when_, _or_, Clear, Verdict, accepted, rejected, TooLarge, listLines, curveLines, Question, Outcome, FigureOutcome, BytesQuestion, BytesOutcome}
+use Rattle.meaning.specs.Refusal.{Refusal, LIST, COUNT, RANGE, FORM, UNBOUNDED, LARGE, number, Lines, _when_, _or_, Clear, Verdict, accepted, rejected, TooLarge, listLines, curveLines, Question, Outcome, part, PartOutcome, FigureOutcome, BytesQuestion, BytesOutcome}
 use Rattle.meaning.specs.ServerQuestions.{ServerInRange, serverLines, portLines, passing, BacklogOutcome, DelayOutcome, ServerOutcome, JoinOutcome, ResidualOutcome}
 use Rattle.meaning.specs.Computed.{earlier, normal, behind, backlog, delay, residual}
 use Rattle.meaning.proofs.Order.{le-or-lt, not-above}
@@ -25,7 +25,7 @@ use Rattle.meaning.proofs.curve.Curves.{pairs-length}
 use Rattle.meaning.proofs.server.Behind.{behind-is, backlog-is}
 use Rattle.meaning.proofs.server.Delay.{delay-is}
 use Rattle.meaning.proofs.server.Joining.{residual-is, residual-unique}
-use Rattle.meaning.proofs.outcome.Answers.{raw-some, both-form, list-up-to, curve-up-to}
+use Rattle.meaning.proofs.outcome.Answers.{raw-some, both-form, list-up-to, curve-up-to, in-part}
 use Rattle.meaning.proofs.outcome.Demands.{port-form, port-server, port-bounded, single-behind, server-up-to, port-up-to, server-refused}
 use Rattle.meaning.proofs.outcome.Outcomes.{number-positive, Single, UpTo, up-to-or, up-to-when, line-hit, line-miss, clear-or, refused-then, verdict-or, refusal, refuse, too-large, no-room, written-out}
 use Rattle.meaning.proofs.outcome.Bytes.{refuse-bytes, no-room-bytes, filled-bytes}
@@ -86,6 +86,17 @@ pub record HasOutcome (ask : Question) (before : List ℕ) : Type 0 where
   pub code : ℕ
   pub count : ℕ
   pub outcome : Outcome ask before after code count
+
+-- There is one, over this part of a table.
+pub record HasPart (ask : Question) (at room : ℕ) (before : List ℕ) : Type 0 where
+  pub after : List ℕ
+  pub code : ℕ
+  pub count : ℕ
+  pub outcome : PartOutcome ask at room before after code count
+
+-- where every list has one, so has every part of a table
+pub part-outcome : {ask : Question} {at room : ℕ} {before : List ℕ} → HasOutcome ask (part at room before) → HasPart ask at room before
+part-outcome h = record { after = _; code = h .code; count = h .count; outcome = in-part (h .outcome) }
 
 -- There is a code and a figure.
 pub record HasFigure (FigureOf : ℕ → ℕ → Type 0) : Type 0 where
