@@ -1,2 +1,3 @@
 -- The laws of the route program.
 pub mod Routes
+pub mod Line
