@@ -14,13 +14,13 @@ use lib.ListN.{length, getD}
 use Rattle.meaning.specs.Curve.{Bucket, _∈_, bucketAt, Falling, Useful, NormalForm, Crossing, reads, numbered}
 use Rattle.meaning.specs.Server.{Server, Instant, served, GreatestGap, Excess, Backlog}
 use Rattle.meaning.specs.Refusal.{AllInRange}
-use Rattle.meaning.specs.Profile.{written, field, profileOf, curve, bucketsOf}
+use Rattle.meaning.specs.Profile.{written, curveKind, kindIn, profileOf, curve, bucketsOf}
 use Rattle.meaning.proofs.Order.{le-or-lt, lt-or-eq-or-gt}
 use Rattle.meaning.proofs.Lists.{at-inside, falling-at}
 use Rattle.meaning.proofs.curve.Value.{same-rate, value-least, value-reached}
 use Rattle.meaning.proofs.curve.Neighbours.{meet, meet-at, below-rises}
 use Rattle.meaning.proofs.server.Joining.{served-past}
-use Rattle.meaning.proofs.profile.Profiles.{curve-bytes, held-curve, held-server, buckets-in-range}
+use Rattle.meaning.proofs.profile.Files.{curve-bytes, held-curve, held-server, buckets-in-range}
 
 -- ---- Normal form: every other bucket is every bucket at another position.
 
@@ -137,7 +137,7 @@ pub record SmallestBurst (f : List Bucket) (n : ℕ) : Type 0 where
 
 -- the value at tick 0 is the smallest burst
 pub value-at-zero : (f : List Bucket) → 1 ≤ length f → SmallestBurst f (reads f 0)
-unfolding bucketAt
+unfolding bucketAt reads
 value-at-zero f h =
     let r = value-reached f 0 1 h in
     record {
@@ -198,16 +198,18 @@ abbrev pub CrossingTime : List Bucket → ℕ → ℕ → ℕ → Type 0
 CrossingTime f k p q =
     (numbered f k .burst - numbered f (k - 1) .burst) * q ≡ (numbered f (k - 1) .rate - numbered f k .rate) * p
 
-module _ (f : List Bucket) (k p q : ℕ) where
+module _ (f : List Bucket) (k p q : ℕ) (second : 2 ≤ k) (inside : k ≤ length f) (some : 0 < q) where
   -- where the rate does not rise nor the burst fall from bucket k-1 to bucket k, their crossing is at that time
   pub crossing-time :
       numbered f k .rate ≤ numbered f (k - 1) .rate → numbered f (k - 1) .burst ≤ numbered f k .burst
       → Crossing f k p q ↔ CrossingTime f k p q
-  crossing-time falls rises = meet-at (meet (numbered f (k - 1)) (numbered f k) falls rises) p q
+  crossing-time falls rises =
+      let met = meet-at (meet (numbered f (k - 1)) (numbered f k) falls rises) p q in
+      (λ c. met .0 (c .meets), λ e. record { from-second = second; inside = inside; q-positive = some; meets = met .1 e })
 
   -- so it is for every two neighbours in normal form
-  pub normal-crossing : NormalForm f → 1 < k → k ≤ length f → Crossing f k p q ↔ CrossingTime f k p q
-  normal-crossing n h l = crossing-time (le-of-lt falls) (le-of-lt rises)
+  pub normal-crossing : NormalForm f → Crossing f k p q ↔ CrossingTime f k p q
+  normal-crossing n = crossing-time (le-of-lt falls) (le-of-lt rises)
     where
       by : NormalAt f
       by = normal-by-position f .0 n
@@ -223,22 +225,23 @@ module _ (f : List Bucket) (k p q : ℕ) where
 
 -- ---- The profile file.
 
--- a curve of one bucket has 10 bytes,
-pub one-bucket-bytes : (f : List Bucket) → length f ≡ 1 → length (written (curve f)) ≡ 10
-one-bucket-bytes f e = omega (arith, curve-bytes f)
+module _ (ed : ℕ) (f : List Bucket) where
+  -- a curve of one bucket has 10 bytes,
+  pub one-bucket-bytes : length f ≡ 1 → length (written ed (curve f)) ≡ 10
+  one-bucket-bytes e = omega (arith, curve-bytes ed f)
 
--- one of two has 17,
-pub two-bucket-bytes : (f : List Bucket) → length f ≡ 2 → length (written (curve f)) ≡ 17
-two-bucket-bytes f e = omega (arith, curve-bytes f)
+  -- one of two has 17,
+  pub two-bucket-bytes : length f ≡ 2 → length (written ed (curve f)) ≡ 17
+  two-bucket-bytes e = omega (arith, curve-bytes ed f)
 
--- and one of 64 has 482
-pub longest-bytes : (f : List Bucket) → length f ≡ 64 → length (written (curve f)) ≡ 482
-longest-bytes f e = omega (arith, curve-bytes f)
+  -- and one of 64 has 482
+  pub longest-bytes : length f ≡ 64 → length (written ed (curve f)) ≡ 482
+  longest-bytes e = omega (arith, curve-bytes ed f)
 
 -- the buckets that a file holds are in range
 pub read-in-range : (file : List ℕ) → AllInRange (bucketsOf (profileOf file))
 read-in-range file =
-    elim (ℕ-discrete (field file 4 4) 1) [
+    elim (ℕ-discrete (kindIn file) curveKind) [
       | yes e ↦ rw (held-curve file e) (buckets-in-range file 14 _)
       | no e ↦ rw (held-server file e) (λ k m. elim m [ ])
     ]

@@ -5,4 +5,5 @@ pub mod Answers
 pub mod Known
 pub mod Slips
 pub mod Demands
+pub mod Bytes
 pub mod EveryInput

@@ -1,2 +1,7 @@
 -- The laws of the profile file.
-pub mod Profiles
+pub mod Bits
+pub mod Fields
+pub mod Files
+pub mod RoundTrip
+pub mod Outcomes
+pub mod Decided

@@ -3,27 +3,27 @@
 -- that is answered, read back from the list and the count alone, is in normal form, in range, taken wherever a curve is, and has
 -- at every non-negative fraction the value that was asked for.
 -- Assumes nothing.
-use mathlib.Core.Path.{_≡_, refl, sym, _∙_, ap}
-use mathlib.Core.Logic.{inl, inr, _≢_, _↔_}
+use mathlib.Core.Path.{_≡_, refl, sym, _∙_, ap, subst}
+use mathlib.Core.Logic.{_⊎_, inl, inr, _≢_, _↔_}
 use mathlib.Core.Bool.{true}
-use mathlib.Core.List.{List, [], _∷_, _++_}
+use mathlib.Core.List.{List, [], _∷_, _++_, append-assoc, append-nil}
 use Prim.Native.Nat.{ℕ, _+_, _*_, _%_, _≤_, _<_, min}
+use native.Mathlib.Nat.{le-of-lt}
 use native.Mathlib.Omega.{arith}
 use lib.Dec.{lit≤}
-use lib.ListN.{length, take, drop, length-take}
-use lib.Seq.{take-take}
+use lib.ListN.{length, take, drop, length-append, length-take, length-drop, drop-of-length-le}
+use lib.Seq.{take-all, take-at, drop-at, take-take, length-take-le}
 use Rattle.meaning.specs.Curve.{Bucket, buckets, width, curveOf, listOf, bucketAt, valueAt, value, NormalForm, NormalOf, pairs, linkBucket}
 use Rattle.meaning.specs.Refusal.{Refusal, LIST, COUNT, RANGE, FORM, LARGE, ROOM, number, Lines, _or_, Wins, Clear, Verdict, accepted, rejected, AllInRange, listLines, rawLines, curveLines, TooLarge, over, Answered, Question, allLines, Outcome, part, PartOutcome, FigureOutcome}
-use Rattle.meaning.specs.CurveQuestions.{normalising, lowering, summing, linkLine, shaping, ValueOutcome}
-use Rattle.meaning.specs.Computed.{isNormal, normal}
+use Rattle.meaning.specs.CurveQuestions.{normalising, lowering, summing, shaping, ValueOutcome}
+use Rattle.meaning.specs.Computed.{isNormal}
 use Rattle.meaning.proofs.Order.{le-or-lt, not-above, not-apart}
 use Rattle.meaning.proofs.curve.Unique.{normal-of-unique}
 use Rattle.meaning.proofs.curve.Neighbours.{neighbours-sound}
 use Rattle.meaning.proofs.outcome.Stable.{range-stable, normal-stable}
-use Rattle.meaning.proofs.curve.Normal.{normal-is}
 use Rattle.meaning.proofs.curve.Curves.{value-both, value-pairs}
 use Rattle.meaning.proofs.outcome.Outcomes.{number-positive, clear-or, wins-once, Same, Single, one-outcome, one-part-outcome, one-figure, UpTo, up-to-when, up-to-or, no-room, written-out}
-use Rattle.meaning.proofs.Lists.{buckets-use, curve-use, list-length, curve-list, EachInRange, all-in-range, over-start, over-beyond, over-length}
+use Rattle.meaning.proofs.Lists.{buckets-use, curve-use, list-length, curve-list, EachInRange, all-in-range, over-start, over-beyond, over-length, empty-same}
 
 -- ---- One outcome.
 
@@ -241,6 +241,46 @@ beyond-stays {count = count} (Outcome.refused v) = ap (drop (width * count)) (v 
 beyond-stays {before = before} (Outcome.answered v) =
     rw (v .count-is, v .written, ← list-length (v .curve)) (over-beyond (listOf (v .curve)) before)
 
+-- A part that is put back in its place, as long as it was, is the part of the new table.
+put-back :
+    (at room : ℕ) (table p : List ℕ) → length p ≡ length (part at room table)
+    → part at room (take at table ++ p ++ drop room (drop at table)) ≡ p
+unfolding part
+put-back at room table p same =
+    elim (le-or-lt at (length table)) [
+      | inl inside ↦
+          ap (λ (l : List ℕ). take room (drop at l)) (append-assoc (take at table) p rest)
+          ∙ ap (take room) (drop-at (take at table) (p ++ rest) at (length-take-le at table inside))
+          ∙ from-start (le-or-lt room (length (drop at table)))
+      | inr outside ↦
+          empty-same _ p (simp (length-take, length-drop, length-append) (omega (arith, size, length-drop at table)))
+          (omega (arith, size, length-drop at table))
+    ]
+  where
+    rest : List ℕ
+    rest = drop room (drop at table)
+
+    size : length p ≡ min room (length (drop at table))
+    size = same ∙ length-take room (drop at table)
+
+    from-start : (room ≤ length (drop at table)) ⊎ (length (drop at table) < room) → take room (p ++ rest) ≡ p
+    from-start (inl h) = take-at p rest room (omega (arith, size))
+    from-start (inr h) =
+        ap (λ (l : List ℕ). take room (p ++ l)) (drop-of-length-le (drop at table) (le-of-lt h))
+        ∙ ap (take room) (append-nil p)
+        ∙ take-all room p (omega (arith, size))
+
+-- What comes of a question over the part comes of it over the part of the table.
+pub in-part :
+    {ask : Question} {at room : ℕ} {before p : List ℕ} {code count : ℕ} → Outcome ask (part at room before) p code count
+    → PartOutcome ask at room before (take at before ++ p ++ drop room (drop at before)) code count
+in-part {ask} {at} {room} {before} {p} {code} {count} o =
+    let same = put-back at room before p (outcome-length o) in
+    record {
+      inside = subst (λ (l : List ℕ). Outcome ask (part at room before) l code count) (sym same) o;
+      outside = ap (λ (l : List ℕ). take at before ++ l ++ drop room (drop at before)) (sym same);
+    }
+
 -- A list in normal form, of `count` buckets, 1 to 64 and all in range, so that it is taken wherever a curve is, with this value
 -- at every non-negative fraction (times q).
 pub record AnswersWith (Value : ℕ → ℕ → ℕ) (g : List ℕ) (count : ℕ) : Type 0 where
@@ -354,6 +394,19 @@ list-clear {f = f} t r (inr h) = h .1 (all-in-range f (t .ranged))
 -- none of a curve's lines holds of one that passes the test of normal form
 pub curve-clear : (l : List ℕ) → Taken width l (curveOf l) → isNormal (curveOf l) ≡ true → Clear (curveLines l)
 curve-clear l t form = clear-or (list-clear t) (λ r h. h .1 (neighbours-sound (curveOf l) form))
+
+-- none holds of the list of a curve in normal form that is not too large
+pub sound-clear : (f : List Bucket) → NormalForm f → (length f ≤ 64) × EachInRange f → Clear (curveLines (listOf f))
+sound-clear f form fits = clear-or (list-clear taken) (λ r h. h .1 (rw curve-list form))
+  where
+    taken : Taken width (listOf f) (curveOf (listOf f))
+    taken =
+        record {
+          filled = omega (arith, list-length f, form .some);
+          even = omega (arith, list-length f);
+          few = rw curve-list (fits .0);
+          ranged = rw curve-list (fits .1);
+        }
 
 -- The only outcomes of a question: where the list has room, code 0, this count, and these numbers written from its start; where
 -- it has not, ROOM.

@@ -14,7 +14,7 @@ use lib.Dec.{lit≤}
 use Rattle.meaning.specs.Curve.{Bucket, buckets, width, curveOf, listOf, value, NormalOf, linkBucket}
 use Rattle.meaning.specs.Server.{Server, noServer, join, last}
 use Rattle.meaning.specs.CurveQuestions.{normalising, lowering, summing, shaping, ValueOutcome}
-use Rattle.meaning.specs.Refusal.{Refusal, LIST, COUNT, RANGE, FORM, UNBOUNDED, LARGE, number, Lines, _when_, _or_, Clear, Verdict, accepted, rejected, TooLarge, listLines, curveLines, Question, Outcome, FigureOutcome}
+use Rattle.meaning.specs.Refusal.{Refusal, LIST, COUNT, RANGE, FORM, UNBOUNDED, LARGE, number, Lines, _when_, _or_, Clear, Verdict, accepted, rejected, TooLarge, listLines, curveLines, Question, Outcome, part, PartOutcome, FigureOutcome, BytesQuestion, BytesOutcome}
 use Rattle.meaning.specs.ServerQuestions.{ServerInRange, serverLines, portLines, passing, BacklogOutcome, DelayOutcome, ServerOutcome, JoinOutcome, ResidualOutcome}
 use Rattle.meaning.specs.Computed.{earlier, normal, behind, backlog, delay, residual}
 use Rattle.meaning.proofs.Order.{le-or-lt, not-above}
@@ -25,33 +25,34 @@ use Rattle.meaning.proofs.curve.Curves.{pairs-length}
 use Rattle.meaning.proofs.server.Behind.{behind-is, backlog-is}
 use Rattle.meaning.proofs.server.Delay.{delay-is}
 use Rattle.meaning.proofs.server.Joining.{residual-is, residual-unique}
-use Rattle.meaning.proofs.outcome.Answers.{raw-some, both-form, list-up-to, curve-up-to}
+use Rattle.meaning.proofs.outcome.Answers.{raw-some, both-form, list-up-to, curve-up-to, in-part}
 use Rattle.meaning.proofs.outcome.Demands.{port-form, port-server, port-bounded, single-behind, server-up-to, port-up-to, server-refused}
 use Rattle.meaning.proofs.outcome.Outcomes.{number-positive, Single, UpTo, up-to-or, up-to-when, line-hit, line-miss, clear-or, refused-then, verdict-or, refusal, refuse, too-large, no-room, written-out}
+use Rattle.meaning.proofs.outcome.Bytes.{refuse-bytes, no-room-bytes, filled-bytes}
 
 -- ---- What can be decided.
 
 -- A test for refusals over these lines comes out.
-abbrev Decided : Lines → Type 0
+abbrev pub Decided : Lines → Type 0
 Decided lines = (code : ℕ) × Verdict lines code
 
 -- that of one line does,
-decide-line : (r : Refusal) {P : Type 0} → Dec P → Decided (r when P)
+pub decide-line : (r : Refusal) {P : Type 0} → Dec P → Decided (r when P)
 decide-line r (yes x) = (number r, line-hit r x)
 decide-line r (no x) = (0, line-miss x)
 
 -- and two tests together
-decide-or : {a b : Lines} → Decided a → Decided b → Decided (a or b)
+pub decide-or : {a b : Lines} → Decided a → Decided b → Decided (a or b)
 decide-or (x, v) (y, w) = (earlier x y, verdict-or v w)
 
 -- either of two can be decided,
-decide-either : {P Q : Type 0} → Dec P → Dec Q → Dec (P ⊎ Q)
+pub decide-either : {P Q : Type 0} → Dec P → Dec Q → Dec (P ⊎ Q)
 decide-either (yes x) q = yes (inl x)
 decide-either (no x) (yes y) = yes (inr y)
 decide-either (no x) (no y) = no (⊎-elim x y)
 
 -- and whether an answer is too large
-decide-too-large : (f : List Bucket) → Dec (TooLarge f)
+pub decide-too-large : (f : List Bucket) → Dec (TooLarge f)
 decide-too-large f = decide-either (decLe 65 (length f)) (Dec·not (decide-all-in-range f))
 
 -- ---- The lines of operands.
@@ -64,15 +65,15 @@ list-decided numbers l f =
     (decide-line RANGE (Dec·not (decide-all-in-range f)))
 
 -- of a curve,
-curve-decided : (f : List ℕ) → Decided (curveLines f)
+pub curve-decided : (f : List ℕ) → Decided (curveLines f)
 curve-decided f = decide-or (list-decided width f (curveOf f)) (decide-line FORM (Dec·not (decide-normal (curveOf f))))
 
 -- of a server,
-server-decided : (s : Server) → Decided (serverLines s)
+pub server-decided : (s : Server) → Decided (serverLines s)
 server-decided s = decide-line RANGE (Dec·not (decide-server s))
 
 -- and of a curve with a server and a bound that the last rate breaks
-port-decided :
+pub port-decided :
     (f : List ℕ) (s : Server) {Broken : Type 0} → Dec Broken
     → Decided (curveLines f or serverLines s or UNBOUNDED when Broken)
 port-decided f s broken = decide-or (decide-or (curve-decided f) (server-decided s)) (decide-line UNBOUNDED broken)
@@ -86,6 +87,17 @@ pub record HasOutcome (ask : Question) (before : List ℕ) : Type 0 where
   pub count : ℕ
   pub outcome : Outcome ask before after code count
 
+-- There is one, over this part of a table.
+pub record HasPart (ask : Question) (at room : ℕ) (before : List ℕ) : Type 0 where
+  pub after : List ℕ
+  pub code : ℕ
+  pub count : ℕ
+  pub outcome : PartOutcome ask at room before after code count
+
+-- where every list has one, so has every part of a table
+pub part-outcome : {ask : Question} {at room : ℕ} {before : List ℕ} → HasOutcome ask (part at room before) → HasPart ask at room before
+part-outcome h = record { after = _; code = h .code; count = h .count; outcome = in-part (h .outcome) }
+
 -- There is a code and a figure.
 pub record HasFigure (FigureOf : ℕ → ℕ → Type 0) : Type 0 where
   pub code : ℕ
@@ -98,13 +110,24 @@ pub record HasServer (ServerOf : ℕ → Server → Type 0) : Type 0 where
   pub server : Server
   pub outcome : ServerOf code server
 
+-- There is an outcome, over this lent buffer.
+pub record HasBytes (ask : BytesQuestion) (before : List ℕ) : Type 0 where
+  pub after : List ℕ
+  pub code : ℕ
+  pub count : ℕ
+  pub outcome : BytesOutcome ask before after code count
+
 -- an outcome that is at hand
 so-curve :
     {ask : Question} {before after : List ℕ} {code count : ℕ} → Outcome ask before after code count → HasOutcome ask before
 so-curve o = record { after = _; code = _; count = _; outcome = o }
 
+so-bytes :
+    {ask : BytesQuestion} {before after : List ℕ} {code count : ℕ} → BytesOutcome ask before after code count → HasBytes ask before
+so-bytes o = record { after = _; code = _; count = _; outcome = o }
+
 -- A question whose operands can be decided, and which has a single exact answer where none is refused, has an outcome.
-curve-outcome :
+pub curve-outcome :
     (ask : Question) (before : List ℕ)
     → Decided (ask .operands) → UpTo 8 (ask .operands) → Single (ask .Answer)
     → (Clear (ask .operands) → (f : List Bucket) × ask .Answer f) → HasOutcome ask before
@@ -135,6 +158,20 @@ figure-outcome (code, rejected r w e) exact =
 figure-outcome (code, accepted clear e) exact =
     let x = exact clear in
     record { code = 0; figure = x .0; outcome = FigureOutcome.answered clear refl (x .1) }
+
+-- of bytes,
+pub bytes-outcome :
+    (ask : BytesQuestion) (before : List ℕ)
+    → Decided (ask .operands) → UpTo 9 (ask .operands) → Single (ask .Answer)
+    → (Clear (ask .operands) → (bytes : List ℕ) × ask .Answer bytes) → HasBytes ask before
+bytes-outcome ask before (code, rejected r w e) upto one exact =
+    so-bytes (refuse-bytes ask before upto (omega (arith, e, number-positive r)) (rejected r w e))
+bytes-outcome ask before (code, accepted clear e) upto one exact =
+    let right = exact clear .1 in
+    elim (le-or-lt (length (exact clear .0)) (length before)) [
+      | inl room ↦ so-bytes (filled-bytes ask before clear right one room)
+      | inr short ↦ so-bytes (no-room-bytes ask before clear right short)
+    ]
 
 -- and of a server
 server-outcome :

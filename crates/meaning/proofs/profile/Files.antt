@@ -1,0 +1,193 @@
+-- Profiles and their files: how many bits and bytes a profile takes, what its file's bits are, and which profile a file holds.
+-- Assumes nothing.
+use mathlib.Core.Path.{_≡_, refl, _∙_, ap}
+use mathlib.Core.Logic.{_≢_}
+use mathlib.Core.List.{List, [], _∷_, _++_}
+use Prim.Native.Nat.{ℕ, zero, suc, _+_, _-_, _*_, _/_, _≤_, _<_}
+use native.Mathlib.Nat.{add-zero}
+use native.Mathlib.Omega.{arith}
+use lib.ListN.{length, length-append, length-drop, length-replicate}
+use lib.Seq.{take-all}
+use borrow.Author.Tests.{eq-eqb, ne-eqb}
+use Rattle.meaning.specs.Curve.{Bucket}
+use Rattle.meaning.specs.Server.{Server}
+use Rattle.meaning.specs.Refusal.{AllInRange}
+use Rattle.meaning.specs.Profile.{spelt, packed, fileBits, curveKind, Profile, curve, server, bucketFields, fields, profileBits, byteCount, written, field, bucketsIn, editionOf, kindIn, profileOf, bytesTaken, padding}
+use Rattle.meaning.proofs.Lists.{cons-each}
+use Rattle.meaning.proofs.curve.Lowest.{same-bucket}
+use Rattle.meaning.proofs.server.Joining.{same-server}
+use Rattle.meaning.proofs.profile.Bits.{Binary, binary-append, binary-drop, zeroBits, binary-zeros, length-packed, binary-packed, binary-file, length-file-bits, Bytes, bits-of-bytes, length-bytes, bytes-are-bytes}
+use Rattle.meaning.proofs.profile.Fields.{Stands, field-fits}
+
+-- ---- The file of a profile.
+
+-- How many bits there are up to the byte's end.
+abbrev pub padWidth : ℕ → Profile → ℕ
+padWidth ed p = 8 * byteCount ed p - length (profileBits ed p)
+
+-- The profile's bits, and zero bits up to the byte's end.
+abbrev pub padded : ℕ → Profile → List ℕ
+padded ed p = profileBits ed p ++ zeroBits (padWidth ed p)
+
+module _ (ed : ℕ) (p : Profile) where
+  binary-padded : Binary (padded ed p)
+  unfolding profileBits
+  binary-padded =
+      binary-append (profileBits ed p) (zeroBits (padWidth ed p)) (binary-packed (fields ed p)) (binary-zeros (padWidth ed p))
+
+  length-padded : length (padded ed p) ≡ 8 * byteCount ed p
+  unfolding byteCount
+  length-padded =
+      omega (
+        arith,
+        length-append (profileBits ed p) (zeroBits (padWidth ed p)),
+        length-replicate {A = ℕ} (padWidth ed p) 0,
+      )
+
+  -- a profile's file has the byte count,
+  pub written-length : length (written ed p) ≡ byteCount ed p
+  unfolding written
+  written-length = length-bytes _ _
+
+  -- its bits are the profile's, then zero bits,
+  pub written-bits : fileBits (written ed p) ≡ padded ed p
+  unfolding written
+  written-bits = bits-of-bytes (byteCount ed p) (padded ed p) binary-padded length-padded
+
+  -- and it is bytes
+  pub written-bytes : Bytes (written ed p)
+  unfolding written
+  written-bytes = bytes-are-bytes (byteCount ed p) (padded ed p) binary-padded
+
+-- ---- How many bits and bytes.
+
+no-bits : length (packed []) ≡ 0
+unfolding packed
+no-bits = refl
+
+bucket-bits : (f : List Bucket) → length (packed (bucketFields f)) ≡ 60 * length f
+unfolding bucketFields
+bucket-bits [] = no-bits
+bucket-bits (k ∷ f) = simp length-packed (omega (arith, bucket-bits f))
+
+module _ (ed : ℕ) where
+  -- a curve has 14 + 60·n bits,
+  pub curve-bits : (f : List Bucket) → length (profileBits ed (curve f)) ≡ 14 + 60 * length f
+  unfolding profileBits fields
+  curve-bits f = simp length-packed (omega (arith, bucket-bits f))
+
+  -- and a server 48
+  pub server-bits : (s : Server) → length (profileBits ed (server s)) ≡ 48
+  unfolding profileBits fields
+  server-bits s = simp length-packed (omega (arith, no-bits))
+
+  -- a curve's file has (60·n + 21)/8 bytes,
+  pub curve-bytes : (f : List Bucket) → length (written ed (curve f)) ≡ (60 * length f + 21) / 8
+  unfolding byteCount
+  curve-bytes f = omega (arith, written-length ed (curve f), curve-bits f)
+
+  -- and a server's 6
+  pub server-bytes : (s : Server) → length (written ed (server s)) ≡ 6
+  unfolding byteCount
+  server-bytes s = omega (arith, written-length ed (server s), server-bits s)
+
+  -- every profile's has more than one
+  pub more-than-one-byte : (p : Profile) → 1 < byteCount ed p
+  unfolding byteCount
+  more-than-one-byte (curve f) = omega (arith, curve-bits f)
+  more-than-one-byte (server s) = omega (arith, server-bits s)
+
+-- ---- The buckets in a file.
+
+-- the buckets of a file are so many
+pub length-buckets-in : (file : List ℕ) (at n : ℕ) → length (bucketsIn file at n) ≡ n
+unfolding bucketsIn
+length-buckets-in file at zero = refl
+length-buckets-in file at (suc n) = ap suc (length-buckets-in file (at + 60) n)
+
+-- The bucket of a file that begins at a bit.
+abbrev pub bucketFrom : List ℕ → ℕ → Bucket
+bucketFrom file at = record { rate = field file at 20; burst = field file (at + 20) 40 }
+
+-- the buckets of a file are in range
+pub buckets-in-range : (file : List ℕ) (at n : ℕ) → AllInRange (bucketsIn file at n)
+unfolding bucketsIn
+buckets-in-range file at zero k m = elim m [ ]
+buckets-in-range file at (suc n) k m =
+    cons-each (record { rate-fits = field-fits file at 20; burst-fits = field-fits file (at + 20) 40 })
+    (buckets-in-range file (at + 60) n) k m
+
+-- one bucket more
+pub buckets-in-next :
+    (file : List ℕ) (at n : ℕ) → bucketsIn file at (suc n) ≡ bucketsIn file at n ++ bucketFrom file (at + 60 * n) ∷ []
+unfolding bucketsIn
+buckets-in-next file at zero = simp add-zero
+buckets-in-next file at (suc n) =
+    let further : at + 60 * suc n ≡ at + 60 + 60 * n = omega arith in
+    rw further (ap (λ (f : List Bucket). bucketFrom file at ∷ f) (buckets-in-next file (at + 60) n))
+
+-- past the rate and the burst of a bucket
+past-bucket : (at : ℕ) → at + 20 + 40 ≡ at + 60
+past-bucket at = omega arith
+
+-- they stand in it
+pub buckets-stand : (file : List ℕ) (at n : ℕ) → Stands file at (bucketFields (bucketsIn file at n))
+unfolding bucketsIn bucketFields
+buckets-stand file at zero = tt
+buckets-stand file at (suc n) = (refl, (refl, rw past-bucket (buckets-stand file (at + 60) n)))
+
+-- and those that stand in it are its buckets
+standing-buckets : (file : List ℕ) (at : ℕ) (f : List Bucket) → Stands file at (bucketFields f) → bucketsIn file at (length f) ≡ f
+unfolding bucketsIn bucketFields
+standing-buckets file at [] h = refl
+standing-buckets file at (k ∷ f) h =
+    let first : bucketFrom file at ≡ k = same-bucket (h .0) (h .1 .0) in
+    let rest : Stands file (at + 60) (bucketFields f) = rw past-bucket at (h .1 .1) in
+    cc (first, standing-buckets file (at + 60) f rest)
+
+-- ---- The profile in a file.
+
+module _ (file : List ℕ) where
+  -- a file of kind 1 holds a curve,
+  pub held-curve : kindIn file ≡ curveKind → profileOf file ≡ curve (bucketsIn file 14 (field file 8 6 + 1))
+  unfolding profileOf
+  held-curve e = rw (eq-eqb (kindIn file) curveKind e)
+
+  -- and one of another kind a server
+  pub held-server :
+      kindIn file ≢ curveKind → profileOf file ≡ server (record { rate = field file 8 20; latency = field file 28 20 })
+  unfolding profileOf
+  held-server e = rw (ne-eqb (kindIn file) curveKind e)
+
+  -- the fields that stand from the start of a file are those of the profile that it holds: a curve,
+  pub standing-curve : (ed : ℕ) (f : List Bucket) → 1 ≤ length f → Stands file 0 (fields ed (curve f)) → profileOf file ≡ curve f
+  unfolding fields kindIn
+  standing-curve ed f some h =
+      let count : field file 8 6 + 1 ≡ length f = omega (arith, h .1 .1 .0) in
+      held-curve (h .1 .0) ∙ ap (λ (n : ℕ). curve (bucketsIn file 14 n)) count ∙ ap curve (standing-buckets file 14 f (h .1 .1 .1))
+
+  -- or a server
+  pub standing-server : (ed : ℕ) (s : Server) → Stands file 0 (fields ed (server s)) → profileOf file ≡ server s
+  unfolding fields kindIn
+  standing-server ed s h =
+      held-server (omega (arith, h .1 .0)) ∙ ap server (same-server (h .1 .1 .0) (h .1 .1 .1 .0))
+
+  -- the padding is bits, as many as there are up to the byte's end
+  pub binary-padding : Binary (padding file)
+  unfolding padding
+  binary-padding = binary-drop (length (profileBits (editionOf file) (profileOf file))) (fileBits file) (binary-file file)
+
+  module _ (whole : length file ≡ bytesTaken file) where
+    pub padding-width : length (padding file) ≡ padWidth (editionOf file) (profileOf file)
+    unfolding padding bytesTaken
+    padding-width =
+        length-drop (length (profileBits (editionOf file) (profileOf file))) (fileBits file)
+        ∙ ap (λ (n : ℕ). n - length (profileBits (editionOf file) (profileOf file))) (length-file-bits file ∙ ap (λ (n : ℕ). 8 * n) whole)
+
+    -- the padding of a file of the byte count required, as one more field
+    pub padding-field :
+        field file (length (profileBits (editionOf file) (profileOf file))) (padWidth (editionOf file) (profileOf file))
+        ≡ spelt (padding file)
+    unfolding field padding
+    padding-field =
+        ap spelt (take-all (padWidth (editionOf file) (profileOf file)) (padding file) (omega (arith, padding-width)))
