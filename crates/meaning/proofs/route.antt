@@ -1,2 +1,5 @@
 -- The laws of the route program.
 pub mod Routes
+pub mod Line
+pub mod Decimal
+pub mod Text

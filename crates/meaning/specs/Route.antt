@@ -117,19 +117,16 @@ digits (suc most) n = cond (ltb n 10) ((48 + n) ∷ []) (digits most (n / 10) ++
 
 -- Numbers, a space before each.
 unfoldable pub numbers : List ℕ → List ℕ
-unfolding digits bytes
 numbers [] = []
 numbers (n ∷ l) = bytes " " ++ digits 20 n ++ numbers l
 
 -- `hop N X Y`, a line for each hop from N on
 unfoldable pub hopLinesFrom : ℕ → List Figures → List ℕ
-unfolding numbers bytes
 hopLinesFrom n [] = []
 hopLinesFrom n (x ∷ l) = bytes "hop" ++ numbers (n ∷ x .backlog ∷ x .delay ∷ []) ++ bytes "\n" ++ hopLinesFrom (n + 1) l
 
 -- The hops, then `route X Y`; or one line only, `refused C at K`.
 unfoldable pub text : Report → List ℕ
-unfolding hopLinesFrom numbers bytes number
 text (passed hops x) = hopLinesFrom 1 hops ++ bytes "route" ++ numbers (x .backlog ∷ x .delay ∷ []) ++ bytes "\n"
 text (refusedAt r k) = bytes "refused" ++ numbers (number r ∷ []) ++ bytes " at" ++ numbers (k ∷ []) ++ bytes "\n"
 
