@@ -71,6 +71,9 @@ pub fn refused(code: u64) -> ServerAnswer
 {
     ServerAnswer {
         code,
-        server: Server { rate: 0, latency: 0 },
+        server: Server {
+            rate: 0,
+            latency: 0,
+        },
     }
 }

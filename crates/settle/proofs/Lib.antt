@@ -3,6 +3,7 @@ pub mod Narrowing
 pub mod Steepest
 pub mod Picking
 pub mod Copying
+pub mod Filling
 pub mod Placing
 pub mod Delivering
 pub mod Settling

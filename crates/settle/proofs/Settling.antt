@@ -116,7 +116,6 @@ module _ (raw : List ℕ) (a : Accepted raw) {out : List ℕ} {count : ℕ} (c :
       (λ none. omega (arith, flat-length (normal (buckets raw)), normal-is (buckets raw) (a .some) .form .some))
       (λ odd. odd (omega (arith, flat-length (normal (buckets raw))))))
 
-
 module _ (raw : List ℕ) {at room : ℕ} {table : List ℕ} (a : Accepted raw) {out : List ℕ} {count : ℕ} (c : Chose (buckets raw) out count) where
   -- the normal form has too many buckets
   pub settled-many : 64 < count → PartOutcome (settling raw) at room table table 9 0

@@ -1,6 +1,6 @@
 // From buckets in local memory to a curve in a part of a lent table, which is written once, at the end, when no refusal is left.
-use checks::limits;
 use crate::Answer;
+use checks::limits;
 ghost use mathlib.Core.Path.{_≡_};
 ghost use Prim.Native.Nat.{_≤_};
 ghost use lib.ListN.{length};

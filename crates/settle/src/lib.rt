@@ -3,9 +3,9 @@
 pub mod deliver;
 mod search;
 
-use checks::limits;
 use crate::deliver::deliver;
 use crate::search::choose;
+use checks::limits;
 ghost use mathlib.Core.Path.{_≡_};
 ghost use Rattle.meaning.specs.Refusal.{Verdict, PartOutcome};
 ghost use Rattle.settle.specs.Contracts.{settling};

@@ -1,8 +1,0 @@
-// The operations on traffic curves, on flat lists of 64-bit numbers: rate then burst for each bucket. Every public function
-// takes any list and any numbers, always ends, and refuses what breaks a rule with the smallest number of the table that applies.
-// An answer is written from the start of a lent list, or of a part of a larger table: the `room` numbers from `at`, as far as
-// the table has them. What lies beyond the answer stays, and on a refusal everything does.
-mod gather;
-pub mod operations;
-pub mod settle;
-pub mod value;

@@ -1,0 +1,32 @@
+-- What the contracts of this crate's own functions cite, beside the definitions of the crate meaning.
+-- Assumes nothing.
+use mathlib.Core.Path.{_≡_}
+use mathlib.Core.Bool.{Bool, true, false, cond}
+use mathlib.Core.List.{List, [], _∷_}
+use Prim.Native.Nat.{ℕ, _≤_}
+use lib.Dec.{leb, ltb}
+use lib.ListN.{length, drop}
+use Rattle.meaning.specs.Curve.{Bucket}
+use Rattle.operations.specs.declared.gather.Next.{Next}
+
+-- The bucket of two numbers.
+abbrev pub bucket : ℕ → ℕ → Bucket
+bucket rate burst = record { rate = rate; burst = burst }
+
+-- By falling rates, and among those of one rate by rising bursts, the first comes no later than the second.
+unfoldable pub comesFirst : Bucket → Bucket → Bool
+comesFirst k j = cond (ltb (j .rate) (k .rate)) true (cond (ltb (k .rate) (j .rate)) false (leb (k .burst) (j .burst)))
+
+-- Two lists of buckets merged in that order.
+unfoldable pub merged : List Bucket → List Bucket → List Bucket
+unfolding comesFirst
+merged [] g = g
+merged (k ∷ f) [] = k ∷ f
+merged (k ∷ f) (j ∷ g) = cond (comesFirst k j) (k ∷ merged f (j ∷ g)) (j ∷ merged (k ∷ f) g)
+
+-- The next bucket of two lists merged is the first of the one list or of the other, and the rest are merged behind it.
+pub record NextOf (f g : List Bucket) (next : Next) : Type 0 where
+  pub first-list :
+      next .first ≡ true → (1 ≤ length f) × (merged f g ≡ bucket (next .rate) (next .burst) ∷ merged (drop 1 f) g)
+  pub second-list :
+      next .first ≡ false → (1 ≤ length g) × (merged f g ≡ bucket (next .rate) (next .burst) ∷ merged f (drop 1 g))

@@ -1,0 +1,127 @@
+// normalise, lower, sum and shape: each answers a curve, into a lent list or into a part of a larger table.
+use crate::gather;
+use settle::Answer;
+use settle::settle;
+ghost use mathlib.Core.Path.{_≡_};
+ghost use Prim.Native.Nat.{_≤_, _%_};
+ghost use lib.ListN.{length};
+ghost use Rattle.meaning.specs.Curve.{buckets, flat, curveOf, pairs};
+ghost use Rattle.meaning.specs.Refusal.{_or_, Verdict, curveLines, AllInRange, Outcome, PartOutcome};
+ghost use Rattle.meaning.specs.CurveQuestions.{linkLine, normalising, lowering, summing, shaping};
+ghost use Rattle.settle.specs.Contracts.{settling};
+ghost use Rattle.operations.specs.Contracts.{merged};
+
+// The refusal of two curves, or 0.
+fn two_curves(f: &[u64], g: &[u64]) -> u64
+    ensures { λ r. ⌜ Verdict (curveLines (now (f .entry)) or curveLines (now (g .entry))) r ⌝ }
+{
+    checks::earlier(checks::curve(f), checks::curve(g))
+}
+
+// The refusal of a curve and a link's rate, or 0.
+fn curve_and_link(f: &[u64], rate: u64) -> u64
+    ensures { λ r. ⌜ Verdict (curveLines (now (f .entry)) or linkLine rate) r ⌝ }
+{
+    checks::earlier(checks::curve(f), checks::link(rate))
+}
+
+// The list in normal form with the same value at every non-negative fraction.
+pub fn normalise_in(raw: &[u64], table: &mut [u64], at: usize, room: usize) -> Answer
+    ensures { λ r. ⌜ PartOutcome (normalising (now (raw .entry))) at room (now (table .entry)) (now (table .exit)) (r .code) (r .count) ⌝ }
+{
+    let code = checks::raw(raw);
+    if code != 0 {
+        return Answer { code, count: 0 };
+    }
+    settle(raw, table, at, room)
+}
+
+// The same into a whole list.
+pub fn normalise(raw: &[u64], out: &mut [u64]) -> Answer
+    ensures { λ r. ⌜ Outcome (normalising (now (raw .entry))) (now (out .entry)) (now (out .exit)) (r .code) (r .count) ⌝ }
+{
+    let room = out.len();
+    normalise_in(raw, out, 0, room)
+}
+
+// The normal form of two curves' buckets together.
+fn together(f: &[u64], g: &[u64], table: &mut [u64], at: usize, room: usize) -> Answer
+    requires { ⌜ (length (curveOf (now f)) ≤ 64) × (length (curveOf (now g)) ≤ 64) ⌝ }
+    ensures { λ r. ⌜ PartOutcome (settling (flat (merged (curveOf (now (f .entry))) (curveOf (now (g .entry)))))) at room (now (table .entry)) (now (table .exit)) (r .code) (r .count) ⌝ }
+{
+    let mut both = [0u64; 256];
+    let end = gather::merge(f, g, &mut both);
+    settle(&both[..end], table, at, room)
+}
+
+// Normal form of both curves' buckets together: the minimum of the two.
+pub fn lower_in(f: &[u64], g: &[u64], table: &mut [u64], at: usize, room: usize) -> Answer
+    ensures { λ r. ⌜ PartOutcome (lowering (now (f .entry)) (now (g .entry))) at room (now (table .entry)) (now (table .exit)) (r .code) (r .count) ⌝ }
+{
+    let code = two_curves(f, g);
+    if code != 0 {
+        return Answer { code, count: 0 };
+    }
+    together(f, g, table, at, room)
+}
+
+// The same into a whole list.
+pub fn lower(f: &[u64], g: &[u64], out: &mut [u64]) -> Answer
+    ensures { λ r. ⌜ Outcome (lowering (now (f .entry)) (now (g .entry))) (now (out .entry)) (now (out .exit)) (r .code) (r .count) ⌝ }
+{
+    let room = out.len();
+    lower_in(f, g, out, 0, room)
+}
+
+// The normal form of all buckets (r + r', b + b'), one from each list.
+fn paired(f: &[u64], g: &[u64], table: &mut [u64], at: usize, room: usize) -> Answer
+    requires { ⌜ AllInRange (buckets (now f)) ⌝ }
+    requires { ⌜ AllInRange (buckets (now g)) ⌝ }
+    requires { ⌜ length (buckets (now f)) ≤ 64 ⌝ }
+    requires { ⌜ length (buckets (now g)) ≤ 64 ⌝ }
+    requires { ⌜ length (now g) % 2 ≡ 0 ⌝ }
+    ensures { λ r. ⌜ PartOutcome (settling (flat (pairs (buckets (now (f .entry))) (buckets (now (g .entry)))))) at room (now (table .entry)) (now (table .exit)) (r .code) (r .count) ⌝ }
+{
+    let mut raw = [0u64; 8192];
+    let end = gather::add_pairs(f, g, &mut raw);
+    settle(&raw[..end], table, at, room)
+}
+
+// Normal form of all buckets (r + r', b + b'), one from each curve: the sum of the two.
+pub fn sum_in(f: &[u64], g: &[u64], table: &mut [u64], at: usize, room: usize) -> Answer
+    ensures { λ r. ⌜ PartOutcome (summing (now (f .entry)) (now (g .entry))) at room (now (table .entry)) (now (table .exit)) (r .code) (r .count) ⌝ }
+{
+    let code = two_curves(f, g);
+    if code != 0 {
+        return Answer { code, count: 0 };
+    }
+    paired(f, g, table, at, room)
+}
+
+// The same into a whole list.
+pub fn sum(f: &[u64], g: &[u64], out: &mut [u64]) -> Answer
+    ensures { λ r. ⌜ Outcome (summing (now (f .entry)) (now (g .entry))) (now (out .entry)) (now (out .exit)) (r .code) (r .count) ⌝ }
+{
+    let room = out.len();
+    sum_in(f, g, out, 0, room)
+}
+
+// Lower of the curve and the bucket (link rate, 0).
+pub fn shape_in(f: &[u64], rate: u64, table: &mut [u64], at: usize, room: usize) -> Answer
+    ensures { λ r. ⌜ PartOutcome (shaping (now (f .entry)) rate) at room (now (table .entry)) (now (table .exit)) (r .code) (r .count) ⌝ }
+{
+    let code = curve_and_link(f, rate);
+    if code != 0 {
+        return Answer { code, count: 0 };
+    }
+    let link = [rate, 0];
+    together(f, &link, table, at, room)
+}
+
+// The same into a whole list.
+pub fn shape(f: &[u64], rate: u64, out: &mut [u64]) -> Answer
+    ensures { λ r. ⌜ Outcome (shaping (now (f .entry)) rate) (now (out .entry)) (now (out .exit)) (r .code) (r .count) ⌝ }
+{
+    let room = out.len();
+    shape_in(f, rate, out, 0, room)
+}

@@ -1,0 +1,113 @@
+// Raw buckets gathered in local memory, from the start of a list on: those of two curves merged, or all added one to one.
+ghost use mathlib.Core.Path.{_≡_};
+ghost use mathlib.Core.List.{map};
+ghost use Prim.Native.Nat.{_+_, _≤_, _<_, _%_, _^_};
+ghost use lib.ListN.{length, drop};
+ghost use Rattle.meaning.specs.Curve.{buckets, flat, curveOf, added, pairs};
+ghost use Rattle.meaning.specs.Refusal.{AllInRange, over};
+ghost use Rattle.operations.specs.Contracts.{bucket, merged, NextOf};
+
+// A bucket, and whether it is the first curve's.
+struct Next {
+    first: bool,
+    rate: u64,
+    burst: u64,
+}
+
+// The next bucket of two curves merged by falling rates, where i and j of them are passed.
+fn next_of(f: &[u64], g: &[u64], i: usize, j: usize) -> Next
+    requires { ⌜ i + j < length (curveOf (now f)) + length (curveOf (now g)) ⌝ }
+    requires { ⌜ (i ≤ length (curveOf (now f))) × (j ≤ length (curveOf (now g))) ⌝ }
+    ensures { λ r. ⌜ NextOf (drop i (curveOf (now (f .entry)))) (drop j (curveOf (now (g .entry)))) r ⌝ }
+{
+    let a = checks::bucket_at(f, i);
+    let of_first = Next {
+        first: true,
+        rate: a.rate,
+        burst: a.burst,
+    };
+    if checks::bucket_count(g) <= j {
+        return of_first;
+    }
+    let b = checks::bucket_at(g, j);
+    let of_second = Next {
+        first: false,
+        rate: b.rate,
+        burst: b.burst,
+    };
+    if checks::bucket_count(f) <= i {
+        return of_second;
+    }
+    if b.rate < a.rate {
+        return of_first;
+    }
+    if a.rate < b.rate {
+        return of_second;
+    }
+    if a.burst <= b.burst {
+        return of_first;
+    }
+    of_second
+}
+
+// The buckets of two curves, merged by falling rates, written to the start of a list. Answers the place after them.
+pub(crate) fn merge(f: &[u64], g: &[u64], out: &mut [u64]) -> usize
+    requires { ⌜ (length (curveOf (now f)) ≤ 64) × (length (curveOf (now g)) ≤ 64) ⌝ }
+    requires { ⌜ 256 ≤ length (now out) ⌝ }
+    ensures place { λ r. ⌜ r ≡ length (flat (merged (curveOf (now (f .entry))) (curveOf (now (g .entry))))) ⌝ }
+    ensures written { λ _. ⌜ now (out .exit) ≡ over (flat (merged (curveOf (now (f .entry))) (curveOf (now (g .entry))))) (now (out .entry)) ⌝ }
+{
+    let count = checks::bucket_count(f) + checks::bucket_count(g);
+    let mut i = 0;
+    let mut j = 0;
+    while i + j < count {
+        let next = next_of(f, g, i, j);
+        let at = 2 * (i + j);
+        out[at] = next.rate;
+        out[at + 1] = next.burst;
+        if next.first {
+            i += 1;
+        } else {
+            j += 1;
+        }
+    }
+    2 * count
+}
+
+// The bucket (rate, burst) added to each bucket of a curve, written to the start of a list.
+fn add_row(rate: u64, burst: u64, curve: &[u64], out: &mut [u64])
+    requires { ⌜ rate < 2 ^ 20 ⌝ }
+    requires { ⌜ burst < 2 ^ 40 ⌝ }
+    requires { ⌜ AllInRange (buckets (now curve)) ⌝ }
+    requires { ⌜ length (flat (buckets (now curve))) ≤ length (now out) ⌝ }
+    ensures { λ _. ⌜ now (out .exit) ≡ over (flat (map (added (bucket rate burst)) (buckets (now (curve .entry))))) (now (out .entry)) ⌝ }
+{
+    let mut i = 0;
+    while i + 1 < curve.len() {
+        out[i] = rate + curve[i];
+        out[i + 1] = burst + curve[i + 1];
+        i += 2;
+    }
+}
+
+// All buckets (r + r', b + b'), one from each curve, written to the start of a list, a row for each bucket of the first. Answers
+// the place after them.
+pub(crate) fn add_pairs(f: &[u64], g: &[u64], out: &mut [u64]) -> usize
+    requires { ⌜ AllInRange (buckets (now f)) ⌝ }
+    requires { ⌜ AllInRange (buckets (now g)) ⌝ }
+    requires { ⌜ length (buckets (now f)) ≤ 64 ⌝ }
+    requires { ⌜ length (buckets (now g)) ≤ 64 ⌝ }
+    requires { ⌜ length (now g) % 2 ≡ 0 ⌝ }
+    requires { ⌜ 8192 ≤ length (now out) ⌝ }
+    ensures place { λ r. ⌜ r ≡ length (flat (pairs (buckets (now (f .entry))) (buckets (now (g .entry))))) ⌝ }
+    ensures written { λ _. ⌜ now (out .exit) ≡ over (flat (pairs (buckets (now (f .entry))) (buckets (now (g .entry))))) (now (out .entry)) ⌝ }
+{
+    let mut at = 0;
+    let mut i = 0;
+    while i + 1 < f.len() {
+        add_row(f[i], f[i + 1], g, &mut out[at..]);
+        at += g.len();
+        i += 2;
+    }
+    at
+}
