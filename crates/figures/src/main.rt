@@ -1,10 +1,12 @@
 // Runs the figures of the scope that are not proved of the definitions, and prints a line for each: what is asked, the code,
-// the count of buckets, and the answered buckets; and P1 into a part of a table, with the whole table. The file stdout beside src/ has what the scope says.
-use curves::operations::normalise;
-use curves::operations::normalise_in;
-use curves::operations::shape;
-use curves::settle::Answer;
+// the count of buckets, and the answered buckets; P1 into a part of a table, with the whole table; and servers joined. The file
+// stdout beside src/ has what the scope says.
 use libc::STDOUT_FILENO;
+use operations::curves::normalise;
+use operations::curves::normalise_in;
+use operations::curves::shape;
+use servers::Server;
+use settle::Answer;
 ghost use mathlib.Core.Path.{_≡_};
 ghost use lib.ListN.{length};
 
@@ -71,6 +73,21 @@ fn show_normalised(words: &[u8], raw: &[u64]) {
     show(words, answer, &out);
 }
 
+// Joins a server of rate 1 and the longest latency with one of rate 1, and shows what is answered.
+fn show_joined(words: &[u8], latency: u64) {
+    let longest = Server {
+        rate: 1,
+        latency: 1_048_575,
+    };
+    let answer = longest.join(Server { rate: 1, latency });
+    let joined = answer.server;
+    io::write_all(STDOUT_FILENO, words);
+    show_number(answer.code);
+    show_number(joined.rate);
+    show_number(joined.latency);
+    io::write_all(STDOUT_FILENO, b"\n");
+}
+
 fn main() {
     let mut out = [0u64; 4];
     let shaped = shape(&[3, 20], 10, &mut out);
@@ -84,4 +101,7 @@ fn main() {
 
     show_in_part(b"normalise P1 into a part of 4 numbers:", 4);
     show_in_part(b"normalise P1 into a part of 3 numbers:", 3);
+
+    show_joined(b"join (1,2^20-1) with (1,0):", 0);
+    show_joined(b"join (1,2^20-1) with (1,1):", 1);
 }
