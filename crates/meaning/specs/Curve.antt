@@ -1,5 +1,6 @@
--- Traffic curves: what a list of token buckets means, its value at a time, normal form, and the operations on curves.
--- A time is a fraction p/q; values at p/q stand multiplied by q, so that they are whole numbers. At a tick q is 1.
+-- Traffic curves: what a list of token buckets means, what it gives at a time, normal form, and the operations on curves.
+-- (docs/SCOPE.md, "Curves".) A time is a fraction p/q; values at p/q stand multiplied by q, so that they are whole numbers. At a
+-- tick q is 1.
 -- Assumes nothing.
 use mathlib.Core.Path.{_≡_}
 use mathlib.Core.List.{List, [], _∷_, _++_, map, List·Memᴰ}
@@ -7,7 +8,7 @@ use Prim.Native.Nat.{ℕ, _+_, _-_, _*_, _≤_, _<_, min}
 use lib.ListN.{length, getD}
 
 infix 50 _∈_
--- A bucket is (rate r, burst b).
+-- A bucket: so many bits a tick, and so many at once.
 pub record Bucket : Type 0 where
   pub rate : ℕ
   pub burst : ℕ
@@ -39,31 +40,31 @@ curveOf l = buckets l
 unfoldable pub listOf : List Bucket → List ℕ
 listOf f = flat f
 
--- A bucket's value at p/q is r·p/q + b.
+-- What a bucket lets through by p/q: r·p/q + b.
 unfoldable pub bucketAt : Bucket → ℕ → ℕ → ℕ
 bucketAt k p q = k .rate * p + k .burst * q
 
--- A curve's value at p/q is the least of its buckets' values there. (No curve is empty; an empty list has 0.)
+-- What a curve lets through by p/q: as much as its lowest bucket. (No curve is empty; an empty list has 0.)
 unfoldable pub valueAt : List Bucket → ℕ → ℕ → ℕ
 unfolding bucketAt
 valueAt [] p q = 0
 valueAt (k ∷ []) p q = bucketAt k p q
 valueAt (k ∷ j ∷ f) p q = min (bucketAt k p q) (valueAt (j ∷ f) p q)
 
--- What backlog, delay and the curve behind read of a curve at a tick, also at 0: the least of r·t + b.
+-- What backlog, delay and the curve behind read of a curve at a tick, 0 included.
 unfoldable pub reads : List Bucket → ℕ → ℕ
 reads f t = valueAt f t 1
 
--- value: at whole tick t the least of r·t + b. At tick 0 that is the smallest burst.
+-- value: what is answered for a tick. At 0 it is the smallest burst.
 unfoldable pub value : List Bucket → ℕ → ℕ
 value f t = valueAt f t 1
 
--- Rates fall strictly.
+-- Each bucket's rate is below those of the buckets before it.
 unfoldable pub Falling : List Bucket → Type 0
 Falling [] = Unit {0}
 Falling (k ∷ f) = ((j : Bucket) → j ∈ f → j .rate < k .rate) × Falling f
 
--- There is a positive time p/q (p and q whole and positive) at which the bucket lies strictly below every other bucket.
+-- A bucket is of use: at some time after 0 it lies strictly below all the others.
 pub record Useful (f : List Bucket) (k : Bucket) : Type 0 where
   pub p : ℕ
   pub q : ℕ
@@ -71,17 +72,17 @@ pub record Useful (f : List Bucket) (k : Bucket) : Type 0 where
   pub q-positive : 0 < q
   pub below : (j : Bucket) → j ∈ f → (j ≡ k → ⊥) → bucketAt k p q < bucketAt j p q
 
--- Normal form: rates fall strictly, and each bucket is useful. A curve has at least one bucket.
+-- Normal form: at least one bucket, rates in falling order, each bucket of use.
 pub record NormalForm (f : List Bucket) : Type 0 where
   pub some : 1 ≤ length f
   pub falling : Falling f
   pub useful : (k : Bucket) → k ∈ f → Useful f k
 
--- The same value at every non-negative fraction.
+-- Two lists let through the same by every time from 0 on.
 abbrev pub SameCurve : List Bucket → List Bucket → Type 0
 SameCurve f g = (p q : ℕ) → 0 < q → valueAt f p q ≡ valueAt g p q
 
--- normalise: the list in normal form with the same value at every non-negative fraction.
+-- normalise: in normal form, and lets through what the raw list does.
 pub record NormalOf (raw f : List Bucket) : Type 0 where
   pub form : NormalForm f
   pub same : SameCurve raw f
@@ -90,28 +91,28 @@ pub record NormalOf (raw f : List Bucket) : Type 0 where
 abbrev pub numbered : List Bucket → ℕ → Bucket
 numbered f i = getD f (i - 1) (record { rate = 0; burst = 0 })
 
--- The crossing numbered k, from 2 on, is that of bucket k-1 with bucket k: the time p/q at which both have one value.
+-- The crossing numbered k, from 2 on: the time p/q at which bucket k and the one before it have one value.
 pub record Crossing (f : List Bucket) (k p q : ℕ) : Type 0 where
   pub from-second : 2 ≤ k
   pub inside : k ≤ length f
   pub q-positive : 0 < q
   pub meets : bucketAt (numbered f (k - 1)) p q ≡ bucketAt (numbered f k) p q
 
--- lower: normal form of both curves' buckets together.
+-- lower: the two lists of buckets put together, in normal form.
 abbrev pub Lower : List Bucket → List Bucket → List Bucket → Type 0
 Lower f g = NormalOf (f ++ g)
 
--- Two buckets added: (r+r', b+b').
+-- Two buckets added, rate to rate and burst to burst.
 unfoldable pub added : Bucket → Bucket → Bucket
 added k j = record { rate = k .rate + j .rate; burst = k .burst + j .burst }
 
--- All buckets (r+r', b+b'), one from each curve.
+-- Each bucket of the one curve added to each of the other.
 unfoldable pub pairs : List Bucket → List Bucket → List Bucket
 unfolding added
 pairs [] g = []
 pairs (k ∷ f) g = map (added k) g ++ pairs f g
 
--- sum: normal form of all buckets (r+r', b+b'), one from each curve.
+-- sum: all those, in normal form.
 abbrev pub Sum : List Bucket → List Bucket → List Bucket → Type 0
 Sum f g = NormalOf (pairs f g)
 
@@ -119,6 +120,6 @@ Sum f g = NormalOf (pairs f g)
 abbrev pub linkBucket : ℕ → Bucket
 linkBucket d = record { rate = d; burst = 0 }
 
--- shape: lower of the curve and the link's bucket.
+-- shape: the curve held down by the link's bucket.
 abbrev pub Shape : List Bucket → Bucket → List Bucket → Type 0
 Shape f link = Lower f (link ∷ [])

@@ -7,7 +7,7 @@ use Prim.Native.Nat.{ℕ, _^_, _≤_}
 use Rattle.meaning.specs.Curve.{buckets, curveOf, value, NormalOf, Lower, Sum, linkBucket, Shape}
 use Rattle.meaning.specs.Refusal.{RANGE, Lines, _when_, _or_, rawLines, curveLines, Question, FigureOutcome}
 
--- normalise takes a raw list; every other operation takes curves in normal form.
+-- normalise takes any list of buckets, and is alone in that.
 unfoldable pub normalising : List ℕ → Question
 normalising raw = record { operands = rawLines raw; Answer = NormalOf (buckets raw) }
 

@@ -1,4 +1,5 @@
--- The refusal table, and what an operation answers and leaves behind: one outcome for every input.
+-- The refusal table, and what an operation answers and leaves behind: one outcome for every input. (docs/SCOPE.md, "Refusals",
+-- "How an answer is handed over".)
 -- Assumes nothing.
 use mathlib.Core.Path.{_≡_}
 use mathlib.Core.Logic.{_⊎_, _≢_}
@@ -42,7 +43,7 @@ abbrev pub _when_ : Refusal → Type 0 → Lines
 abbrev pub _or_ : Lines → Lines → Lines
 (a or b) line = a line ⊎ b line
 
--- The smallest number that applies wins, over all operands.
+-- Of the lines that hold, of whatever operand, the first in that order is the refusal.
 pub record Wins (lines : Lines) (r : Refusal) : Type 0 where
   pub holds : lines r
   pub smallest : (other : Refusal) → lines other → rank r ≤ rank other
@@ -65,7 +66,7 @@ pub record Within (rate-end burst-end : ℕ) (k : Bucket) : Type 0 where
 abbrev pub AllWithin : ℕ → ℕ → List Bucket → Type 0
 AllWithin rate-end burst-end f = (k : Bucket) → k ∈ f → Within rate-end burst-end k
 
--- r from 0 to 2^20-1, b from 0 to 2^40-1.
+-- A bucket's ranges: rates below 2^20, bursts below 2^40.
 abbrev pub InRange : Bucket → Type 0
 InRange = Within (2 ^ 20) (2 ^ 40)
 
@@ -92,7 +93,7 @@ rawLines l = listLines 2 l (buckets l)
 abbrev pub curveLines : List ℕ → Lines
 curveLines l = listLines width l (curveOf l) or FORM when (NormalForm (curveOf l) → ⊥)
 
--- The exact answer has over 64 buckets, or one of its rates or bursts is out of range.
+-- A curve that is too large to be handed out.
 abbrev pub TooLarge : List Bucket → Type 0
 TooLarge f = (64 < length f) ⊎ (AllInRange f → ⊥)
 
@@ -102,11 +103,11 @@ answerLines Answer room =
     LARGE when ((f : List Bucket) × Answer f × TooLarge f)
     or ROOM when ((f : List Bucket) × Answer f × (room < length (listOf f)))
 
--- A curve answer is written from the start of a lent list; numbers beyond it stay.
+-- An answer over the start of what was lent, and the rest as it was.
 unfoldable pub over : List ℕ → List ℕ → List ℕ
 over answer before = answer ++ drop (length answer) before
 
--- A refusal returns its number and 0 for the count or figure; all lent memory stays.
+-- Refused: the number of the line that wins, no count or figure, and what was lent as it was.
 pub record Refused (lines : Lines) (before after : List ℕ) (code figure : ℕ) : Type 0 where
   pub why : Refusal
   pub wins : Wins lines why

@@ -1,4 +1,5 @@
--- Rate-latency servers, and what they do to a curve: service, join, behind, backlog, delay, residual, as min-plus has them at whole ticks.
+-- Servers, and what they do to a curve: service, join, behind, backlog, delay, residual, as min-plus has them at whole ticks.
+-- (docs/SCOPE.md, "Servers", "Questions and answers".)
 -- Assumes nothing.
 use mathlib.Core.Path.{_≡_}
 use mathlib.Core.Bool.{cond}
@@ -7,7 +8,7 @@ use Prim.Native.Nat.{ℕ, _+_, _-_, _*_, _≤_, min}
 use lib.Dec.{leb}
 use Rattle.meaning.specs.Curve.{Bucket, NormalOf, reads}
 
--- A rate-latency server is (rate R, latency T).
+-- A rate-latency server: R bits a tick, once T ticks are over.
 pub record RateLatency : Type 0 where
   pub rate : ℕ
   pub latency : ℕ
@@ -24,11 +25,11 @@ noServer = record { rate = 0; latency = 0 }
 abbrev pub Instant : Type 0
 Instant = ℕ
 
--- It serves R·(t-T) by tick t, and 0 up to tick T. (The difference of two numbers is 0 where it would be negative.)
+-- What it has served by an instant. (A difference of numbers is 0 where it would be negative: so nothing up to T.)
 unfoldable pub served : RateLatency → Instant → ℕ
 served s t = s .rate * (t - s .latency)
 
--- n is the greatest of a(u) minus b(u) over all instants u.
+-- n is the most by which a is ahead of b at any instant.
 pub record GreatestGap (a b : Instant → ℕ) (n : ℕ) : Type 0 where
   pub at : Instant
   pub reached : a at ≡ b at + n
@@ -39,35 +40,35 @@ pub record Smallest (P : ℕ → Type 0) (n : ℕ) : Type 0 where
   pub suffices : P n
   pub smallest : (m : ℕ) → P m → n ≤ m
 
--- join: server with the smaller rate and the added latencies.
+-- join: the slower of the two rates, both latencies.
 unfoldable pub join : RateLatency → RateLatency → RateLatency
 join s next = record { rate = min (s .rate) (next .rate); latency = s .latency + next .latency }
 
--- M is the greatest of value(s) - R·s over whole s ≥ 0.
+-- M: the most by which a curve is ahead of R bits a tick.
 abbrev pub Excess : List Bucket → ℕ → ℕ → Type 0
 Excess f rate = GreatestGap (reads f) (λ u. rate * u)
 
--- (r, b + r·T)
+-- A bucket that begins T ticks early: its burst grows by r·T.
 unfoldable pub later : ℕ → Bucket → Bucket
 later latency k = record { rate = k .rate; burst = k .burst + k .rate * latency }
 
--- (r, b + r·T) for each bucket with r ≤ R
+-- Those of the buckets that are no faster than the server, each so.
 unfoldable pub slower : RateLatency → List Bucket → List Bucket
 unfolding later
 slower s [] = []
 slower s (k ∷ f) = cond (leb (k .rate) (s .rate)) (later (s .latency) k ∷ slower s f) (slower s f)
 
--- behind: normal form of (r, b + r·T) for each bucket with r ≤ R, and (R, B), where B = R·T + M.
+-- behind: those, and the bucket (R, R·T + M), in normal form.
 pub record Behind (f : List Bucket) (s : RateLatency) (g : List Bucket) : Type 0 where
   pub m : ℕ
   pub excess : Excess f (s .rate) m
   pub normal : NormalOf (slower s f ++ record { rate = s .rate; burst = s .rate * s .latency + m } ∷ []) g
 
--- backlog: greatest over whole u ≥ 0 of value(u) minus what the server serves by u.
+-- backlog: the most by which a curve is ahead of what is served.
 abbrev pub Backlog : List Bucket → RateLatency → ℕ → Type 0
 Backlog f s = GreatestGap (reads f) (served s)
 
--- delay: smallest whole d ≥ 0 such that value(t) is at most what is served by t+d, for every whole t ≥ 0.
+-- delay: the least d with which, whatever the instant, all that has come by it is served d later.
 abbrev pub Delay : List Bucket → RateLatency → ℕ → Type 0
 Delay f s = Smallest (λ d. (t : Instant) → reads f t ≤ served s (t + d))
 
@@ -77,7 +78,7 @@ last [] = record { rate = 0; burst = 0 }
 last (k ∷ []) = k
 last (k ∷ j ∷ f) = last (j ∷ f)
 
--- residual: with the cross curve's last bucket (r, b), rate R-r, latency T + b/R, the quotient rounded up.
+-- residual: what the cross curve's last bucket (r, b) leaves: R-r, after T and so many ticks as R takes for b, rounded up.
 pub record Residual (cross : List Bucket) (s left : RateLatency) : Type 0 where
   pub rate-is : left .rate ≡ s .rate - last cross .rate
   pub quotient : ℕ

@@ -7,7 +7,7 @@ use Rattle.meaning.specs.Curve.{curveOf}
 use Rattle.meaning.specs.Refusal.{RANGE, UNBOUNDED, LARGE, Lines, _when_, _or_, Clear, Refused, curveLines, Question, FigureOutcome}
 use Rattle.meaning.specs.Server.{Server, noServer, join, Behind, Backlog, Delay, Residual, last}
 
--- R from 1 to 2^20-1, T from 0 to 2^20-1.
+-- A server's ranges: some rate, below 2^20, and a latency below 2^20.
 pub record ServerInRange (s : Server) : Type 0 where
   pub rate-some : 1 ≤ s .rate
   pub rate-fits : s .rate < 2 ^ 20
@@ -43,7 +43,7 @@ pub data ServerOutcome (operands : Lines) (Answer : Server → Type 0) (code : �
       Refused (withLarge operands Answer) [] [] code 0 → s ≡ noServer → ServerOutcome operands Answer code s
   answered : Clear (withLarge operands Answer) → code ≡ 0 → Answer s → ServerOutcome operands Answer code s
 
--- join: a server joins the next one and gives back the joined server.
+-- join: of two servers comes the one joined server.
 unfoldable pub JoinOutcome : Server → Server → ℕ → Server → Type 0
 JoinOutcome s next = ServerOutcome (serverLines s or serverLines next) (λ joined. joined ≡ join s next)
 
