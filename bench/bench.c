@@ -161,10 +161,10 @@ static const struct timing_case cases[] = {
     { "write_curve", "", write_curve, make_one_curve, 8, 16, false },
     { "write_curve", "", write_curve, make_one_curve, 64, 16, false },
     { "write_server", "", write_server, make_servers, 0, 16, false },
-    { "route", "32 hops, all buckets stay", route, make_route_of_full_curves, 1, 16, false },
-    { "route", "32 hops, all buckets stay", route, make_route_of_full_curves, 8, 16, false },
-    { "route", "32 hops, all buckets stay", route, make_route_of_full_curves, 64, 16, false },
-    { "route", "32 hops, each cuts", route, make_route_of_cuts, 64, 16, false },
+    { "route", "32 hops, all buckets stay", route, make_route_of_full_curves, 1, 16, true },
+    { "route", "32 hops, all buckets stay", route, make_route_of_full_curves, 8, 16, true },
+    { "route", "32 hops, all buckets stay", route, make_route_of_full_curves, 64, 16, true },
+    { "route", "32 hops, each cuts", route, make_route_of_cuts, 64, 16, true },
 };
 
 enum { CASES = sizeof cases / sizeof cases[0] };

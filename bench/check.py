@@ -420,13 +420,17 @@ def some_file(rng):
     return file
 
 
+def quiet_server(rng, curve):
+    """A server that carries the curve in the end, with a short latency."""
+    return max(1, curve[-1][0], rng.choice(curve)[0] - rng.choice([0, 0, 1, 2])), rng.choice([0, 1, 2, rng.randrange(12)])
+
+
 def some_route(rng):
     curve = some_curve(rng)
     data = curve_file(curve)
-    for _ in range(rng.choice([1, 2, 3, 5, 32, 33])):
-        rate, latency = fitting_server(rng, curve)
-        if rng.randrange(4) > 0:
-            rate = max(rate, curve[-1][0])
+    draw = rng.choice([quiet_server, quiet_server, fitting_server])
+    for _ in range(rng.choice([1, 2, 3, 5, 8, 31, 32, 33])):
+        rate, latency = draw(rng, curve)
         data += server_file((rate % RATE_END, latency % RATE_END))
     trouble = rng.randrange(10)
     if trouble == 0:
@@ -491,10 +495,13 @@ def one_round(c, rng, tally):
     buffer = [rng.randrange(256) for _ in range(rng.choice([482, 500, 10, 9, 17, 6, 5, 0]))]
     asked("write_curve", [list64(f)], list8(buffer), write_curve(f, buffer))
     asked("write_server", [*server], list8(buffer), write_server(server, buffer))
-    if c.has("route") and rng.randrange(4) == 0:
+    if c.has("route") and rng.randrange(2) == 0:
         data = some_route(rng)
         text = [rng.randrange(256) for _ in range(rng.choice([1145, 1200, 1145, 15, 16, 40]))]
         asked("route", [list8(data)], list8(text), route(data, text))
+        told = route_text(data)
+        key = ("route text", int(told.split()[1]) if told.startswith("refused") else 0)
+        tally[key] = tally.get(key, 0) + 1
 
 
 def definitions_agree(rng):
@@ -562,9 +569,10 @@ def main(path, prefixes, rounds):
         for _ in range(rounds):
             one_round(c, rng, tally)
         names = [name for name in tally if isinstance(name, str)]
-        for name in names:
+        shown = names + ["route text"]
+        for name in shown:
             codes = ["%d: %d" % (key[1], tally[key]) for key in sorted(k for k in tally if not isinstance(k, str)) if key[0] == name]
-            print("%s_%s, by code: %s" % (prefix, name, ", ".join(codes)))
+            print("%s %s, by code: %s" % (prefix, name, ", ".join(codes)))
         passed += sum(tally[name] for name in names)
     print("%d passed, 0 failed" % passed)
 

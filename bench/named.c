@@ -1,6 +1,6 @@
 #include "named.h"
 
-#include "shared.h"
+#include "profile.h"
 
 struct bucket {
     uint64_t rate, burst;
@@ -196,12 +196,10 @@ static uint64_t excess(const uint64_t *curve, size_t count, uint64_t rate)
     return before > after ? before : after;
 }
 
-duchrelin_answer named_behind(const uint64_t *curve, size_t curve_numbers, uint64_t rate, uint64_t latency,
-                              uint64_t *out, size_t out_numbers)
+/* The curve behind a server; the refusals of the operands are known not to hold. */
+static duchrelin_answer settle_behind(const uint64_t *curve, size_t curve_numbers, uint64_t rate, uint64_t latency,
+                                      uint64_t *out, size_t out_numbers)
 {
-    uint64_t code = port_refusal(curve, curve_numbers, rate, latency);
-    if (code != 0)
-        return refused_answer(code);
     uint64_t raw[CURVE_NUMBERS + 2];
     size_t count = 0;
     for (size_t i = 0; i < curve_numbers; i += 2)
@@ -213,4 +211,94 @@ duchrelin_answer named_behind(const uint64_t *curve, size_t curve_numbers, uint6
     raw[2 * count] = rate;
     raw[2 * count + 1] = rate * latency + excess(curve, curve_numbers / 2, rate);
     return settle(raw, count + 1, out, out_numbers);
+}
+
+duchrelin_answer named_behind(const uint64_t *curve, size_t curve_numbers, uint64_t rate, uint64_t latency,
+                              uint64_t *out, size_t out_numbers)
+{
+    uint64_t code = port_refusal(curve, curve_numbers, rate, latency);
+    if (code != 0)
+        return refused_answer(code);
+    return settle_behind(curve, curve_numbers, rate, latency, out, out_numbers);
+}
+
+static uint64_t delay_of(const uint64_t *curve, size_t count, uint64_t rate, uint64_t latency)
+{
+    if (least_at(curve, count, 1) == 0)
+        return 0;
+    return latency + quotient_rounded_up(excess(curve, count, rate), rate);
+}
+
+/* The curve of the hop at hand, and the servers up to it joined. */
+struct journey {
+    uint64_t curve[CURVE_NUMBERS];
+    size_t numbers;
+    size_t hops;
+    uint64_t joined_rate, joined_latency;
+};
+
+/* Takes the next server: its refusal, or 0, its line of text, and the curve behind it. */
+static uint64_t travel(struct journey *journey, const uint8_t *input, size_t bytes, struct text *text)
+{
+    if (journey->hops == DUCHRELIN_MOST_SERVERS)
+        return DUCHRELIN_COUNT;
+    uint64_t code = due_refusal(input, bytes, DUCHRELIN_KIND_SERVER);
+    if (code != 0)
+        return code;
+    uint64_t rate, latency, behind[CURVE_NUMBERS];
+    take_server(input, &rate, &latency);
+    code = port_refusal(journey->curve, journey->numbers, rate, latency);
+    if (code != 0)
+        return code;
+    duchrelin_answer answer = settle_behind(journey->curve, journey->numbers, rate, latency, behind, CURVE_NUMBERS);
+    code = smaller_code(answer.code, join_refusal(journey->joined_latency, latency));
+    if (code != 0)
+        return code;
+    journey->hops++;
+    put_hop(text, journey->hops, burst_of(behind, 0), delay_of(journey->curve, journey->numbers / 2, rate, latency));
+    journey->numbers = 2 * answer.count;
+    memcpy(journey->curve, behind, journey->numbers * sizeof *behind);
+    journey->joined_rate = smaller(journey->joined_rate, rate);
+    journey->joined_latency += latency;
+    return 0;
+}
+
+static void put_whole_route(struct text *text, const uint64_t *first, size_t count, const struct journey *journey)
+{
+    uint64_t behind[CURVE_NUMBERS];
+    settle_behind(first, 2 * count, journey->joined_rate, journey->joined_latency, behind, CURVE_NUMBERS);
+    put_route(text, burst_of(behind, 0), delay_of(first, count, journey->joined_rate, journey->joined_latency));
+}
+
+static void report(struct text *text, const uint8_t *input, size_t bytes)
+{
+    uint64_t first[CURVE_NUMBERS];
+    size_t count = 0;
+    uint64_t code = due_refusal(input, bytes, DUCHRELIN_KIND_CURVE);
+    if (code == 0)
+        code = take_curve(input, first, &count);
+    if (code != 0) {
+        put_refusal(text, code, 1);
+        return;
+    }
+    struct journey journey = { .numbers = 2 * count, .hops = 0, .joined_rate = RATE_END, .joined_latency = 0 };
+    memcpy(journey.curve, first, journey.numbers * sizeof *first);
+    size_t at = curve_bytes(count);
+    do {
+        code = travel(&journey, input + at, bytes - at, text);
+        if (code != 0) {
+            put_refusal(text, code, journey.hops + 2);
+            return;
+        }
+        at += SERVER_BYTES;
+    } while (at < bytes);
+    put_whole_route(text, first, count, &journey);
+}
+
+duchrelin_written named_route(const uint8_t *input, size_t input_bytes, uint8_t *text, size_t text_bytes)
+{
+    struct text local;
+    local.count = 0;
+    report(&local, input, input_bytes);
+    return handed_over(&local, text, text_bytes);
 }

@@ -1,6 +1,6 @@
 #include "plain.h"
 
-#include "shared.h"
+#include "profile.h"
 
 /*
  * Normal form of buckets that come by falling rates: the lower hull of their lines.
@@ -42,61 +42,71 @@ static uint64_t key_of(uint64_t rate, uint64_t burst) { return (RATE_END - 1 - r
 static uint64_t key_rate(uint64_t key) { return RATE_END - 1 - (key >> BURST_BITS); }
 static uint64_t key_burst(uint64_t key) { return key & (BURST_END - 1); }
 
+static void put_in_order(uint64_t *keys, int a, int b)
+{
+    uint64_t x = keys[a], y = keys[b];
+    keys[a] = x < y ? x : y;
+    keys[b] = x < y ? y : x;
+}
+
 enum { RUN = 8 };
 
-static void sort_run(uint64_t *keys, size_t count)
+/* Eight keys by a sorting network: no branch depends on them, so none is guessed wrong. Exchanges of one line do not touch each other. */
+static void sort_run(uint64_t keys[RUN])
 {
-    for (size_t i = 1; i < count; i++) {
-        uint64_t key = keys[i];
-        size_t at = i;
-        for (; at > 0 && keys[at - 1] > key; at--)
-            keys[at] = keys[at - 1];
-        keys[at] = key;
+    put_in_order(keys, 0, 2), put_in_order(keys, 1, 3), put_in_order(keys, 4, 6), put_in_order(keys, 5, 7);
+    put_in_order(keys, 0, 4), put_in_order(keys, 1, 5), put_in_order(keys, 2, 6), put_in_order(keys, 3, 7);
+    put_in_order(keys, 0, 1), put_in_order(keys, 2, 3), put_in_order(keys, 4, 5), put_in_order(keys, 6, 7);
+    put_in_order(keys, 2, 4), put_in_order(keys, 3, 5);
+    put_in_order(keys, 1, 4), put_in_order(keys, 3, 6);
+    put_in_order(keys, 1, 2), put_in_order(keys, 3, 4), put_in_order(keys, 5, 6);
+}
+
+/* Two runs of one length, one after the other, merged from both ends at once: half the keys from the front and half from the back, so that
+ * neither end runs past a run and the two chains of choices do not wait for each other. */
+static void merge_runs(const uint64_t *runs, size_t length, uint64_t *out)
+{
+    const uint64_t *low = runs, *low_next = runs + length;
+    const uint64_t *high_before = runs + length - 1, *high = runs + 2 * length - 1;
+    for (size_t i = 0; i < length; i++) {
+        bool first = *low <= *low_next;
+        out[i] = first ? *low : *low_next;
+        low += first;
+        low_next += !first;
+        bool last = *high_before <= *high;
+        out[2 * length - 1 - i] = last ? *high : *high_before;
+        high -= last;
+        high_before -= !last;
     }
 }
 
-/* The choice of the smaller head is arithmetic, since a branch on it would be guessed wrong half the time. */
-static void merge_runs(const uint64_t *a, size_t a_count, const uint64_t *b, size_t b_count, uint64_t *out)
-{
-    size_t i = 0, j = 0;
-    while (i < a_count && j < b_count) {
-        uint64_t x = a[i], y = b[j];
-        bool first = x <= y;
-        out[i + j] = first ? x : y;
-        i += first;
-        j += !first;
-    }
-    for (; i < a_count; i++)
-        out[i + j] = a[i];
-    for (; j < b_count; j++)
-        out[i + j] = b[j];
-}
-
-static size_t smaller_size(size_t a, size_t b) { return a < b ? a : b; }
-
-/* Short runs by insertion, then runs merged two by two between the two halves of the table. */
+/* The keys in the first half of the table in order, `count` of them; where they are then. They are filled up to runs of one length, two of
+ * which are merged at a time, between the two halves of the table. */
 static const uint64_t *sorted(uint64_t table[2][MOST_BUCKETS], size_t count)
 {
-    for (size_t at = 0; at < count; at += RUN)
-        sort_run(table[0] + at, smaller_size(RUN, count - at));
+    size_t filled = RUN;
+    while (filled < count)
+        filled *= 2;
+    for (size_t i = count; i < filled; i++)
+        table[0][i] = UINT64_MAX;
+    for (size_t at = 0; at < filled; at += RUN)
+        sort_run(table[0] + at);
     int now = 0;
-    for (size_t run = RUN; run < count; run *= 2) {
-        for (size_t at = 0; at < count; at += 2 * run) {
-            size_t left = smaller_size(run, count - at);
-            size_t right = smaller_size(run, count - at - left);
-            merge_runs(table[now] + at, left, table[now] + at + left, right, table[1 - now] + at);
-        }
-        now = 1 - now;
-    }
+    for (size_t length = RUN; length < filled; length *= 2, now = 1 - now)
+        for (size_t at = 0; at < filled; at += 2 * length)
+            merge_runs(table[now] + at, length, table[1 - now] + at);
     return table[now];
 }
 
+/* A list that is in normal form already is its own answer. */
 duchrelin_answer plain_normalise(const uint64_t *raw, size_t raw_numbers, uint64_t *out, size_t out_numbers)
 {
-    uint64_t code = raw_refusal(raw, raw_numbers);
-    if (code != 0)
-        return refused_answer(code);
+    uint64_t code = curve_refusal(raw, raw_numbers);
     size_t count = raw_numbers / 2;
+    if (code == 0)
+        return placed(raw, count, out, out_numbers);
+    if (code != DUCHRELIN_FORM)
+        return refused_answer(code);
     uint64_t table[2][MOST_BUCKETS];
     for (size_t i = 0; i < count; i++)
         table[0][i] = key_of(rate_of(raw, i), burst_of(raw, i));
@@ -247,20 +257,14 @@ duchrelin_answer plain_shape(const uint64_t *curve, size_t curve_numbers, uint64
  * Servers.
  */
 
-/* What comes of a curve at a server: the most by which the curve is ahead of the server's rate, and the curve behind, which is the
- * buckets from `first` on, moved by the latency, with the server's own bucket before them if it is `led`. */
-struct passage {
-    uint64_t excess;
-    size_t first;
-    bool led;
-};
-
 static uint64_t ahead(uint64_t value, uint64_t rate, uint64_t tick) { return value > rate * tick ? value - rate * tick : 0; }
 
-/* The curve is most ahead at one of the two ticks around the crossing of bucket k-1 with bucket k, which is the first within the
- * server's rate. Up to the crossing the lowest bucket is k-1 or one before it, past the crossing k or one after it. */
-static uint64_t excess_at_crossing(const uint64_t *curve, size_t count, uint64_t rate, size_t k)
+/* The most by which the curve is ahead of a server's rate at a whole tick, where bucket k is the first within the rate. It is so at one of
+ * the two ticks around the crossing with the bucket before: up to it the lowest bucket is k-1 or one before that, past it k or one after. */
+static uint64_t excess_by(const uint64_t *curve, size_t count, uint64_t rate, size_t k)
 {
+    if (k == 0)
+        return burst_of(curve, 0);
     uint64_t tick = rise_after(curve, k - 1) / fall_after(curve, k - 1);
     uint64_t before = bucket_at(curve, k - 1, tick);
     for (size_t i = k - 1; i > 0 && bucket_at(curve, i - 1, tick) < before; i--)
@@ -273,6 +277,39 @@ static uint64_t excess_at_crossing(const uint64_t *curve, size_t count, uint64_t
     return ahead_before > ahead_after ? ahead_before : ahead_after;
 }
 
+static uint64_t excess_of(const uint64_t *curve, size_t count, uint64_t rate)
+{
+    return excess_by(curve, count, rate, first_within(curve, count, rate));
+}
+
+/* Whether the latency ends before the curve comes within the server's rate. Then the server's own bucket is the first of the curve behind;
+ * otherwise it is of no use. */
+static bool leads(const uint64_t *curve, size_t k, uint64_t latency)
+{
+    return k > 0 && latency * fall_after(curve, k - 1) < rise_after(curve, k - 1);
+}
+
+/* The burst of the first bucket behind. */
+static uint64_t backlog_of(const uint64_t *curve, size_t count, uint64_t rate, uint64_t latency)
+{
+    size_t k = first_within(curve, count, rate);
+    return leads(curve, k, latency) ? rate * latency + excess_by(curve, count, rate, k) : value_at(curve, count, latency);
+}
+
+/* A curve that carries nothing waits for nothing. */
+static bool carries_nothing(const uint64_t *curve, size_t count) { return count == 1 && curve[0] == 0 && curve[1] == 0; }
+
+static uint64_t delay_of(const uint64_t *curve, size_t count, uint64_t rate, uint64_t latency)
+{
+    return carries_nothing(curve, count) ? 0 : latency + quotient_rounded_up(excess_of(curve, count, rate), rate);
+}
+
+/* The last bucket always stays behind a server, and its burst is the greatest. */
+static bool too_large_behind(const uint64_t *curve, size_t numbers, uint64_t latency)
+{
+    return last_burst(curve, numbers) + last_rate(curve, numbers) * latency >= BURST_END;
+}
+
 /* The first of the buckets from `from` on that the bucket (rate, excess) and the one that follows do not cover together. */
 static size_t first_uncovered(const uint64_t *curve, size_t count, uint64_t rate, uint64_t excess, size_t from)
 {
@@ -283,64 +320,13 @@ static size_t first_uncovered(const uint64_t *curve, size_t count, uint64_t rate
     return from;
 }
 
-/* Time runs on by the latency. If it passes the crossing where the curve comes within the server's rate, the server's own bucket is of
- * no use, and the curve behind begins with the bucket that is lowest at that time. */
-static struct passage pass(const uint64_t *curve, size_t count, uint64_t rate, uint64_t latency)
+static void write_moved(const uint64_t *curve, size_t from, size_t count, uint64_t latency, uint64_t *out)
 {
-    size_t k = first_within(curve, count, rate);
-    if (k == 0)
-        return (struct passage){ .excess = burst_of(curve, 0), .first = lowest_at(curve, count, latency), .led = false };
-    uint64_t excess = excess_at_crossing(curve, count, rate, k);
-    if (rise_after(curve, k - 1) <= latency * fall_after(curve, k - 1))
-        return (struct passage){ .excess = excess, .first = lowest_at(curve, count, latency), .led = false };
-    size_t flatter = rate_of(curve, k) == rate ? k + 1 : k;
-    return (struct passage){ .excess = excess, .first = first_uncovered(curve, count, rate, excess, flatter), .led = true };
-}
-
-static size_t count_behind(const struct passage *passage, size_t count) { return passage->led + count - passage->first; }
-
-/* The last bucket always stays, and its burst is the greatest. */
-static bool too_large_behind(const uint64_t *curve, size_t numbers, uint64_t latency)
-{
-    return last_burst(curve, numbers) + last_rate(curve, numbers) * latency >= BURST_END;
-}
-
-/* May be written over the curve itself: no bucket is written before those up to its place are read. */
-static void write_behind(const uint64_t *curve, size_t count, uint64_t rate, uint64_t latency, const struct passage *passage,
-                         uint64_t *out)
-{
-    if (passage->led) {
-        out[0] = rate;
-        out[1] = rate * latency + passage->excess;
-        out += 2;
-    }
-    for (size_t i = passage->first; i < count; i++, out += 2) {
-        uint64_t slow = rate_of(curve, i), burst = burst_of(curve, i);
-        out[0] = slow;
-        out[1] = burst + slow * latency;
+    for (size_t i = from; i < count; i++, out += 2) {
+        out[0] = rate_of(curve, i);
+        out[1] = bucket_at(curve, i, latency);
     }
 }
-
-/* It is the burst of the first bucket behind. */
-static uint64_t backlog_of(const uint64_t *curve, uint64_t rate, uint64_t latency, const struct passage *passage)
-{
-    return passage->led ? rate * latency + passage->excess : bucket_at(curve, passage->first, latency);
-}
-
-/* A curve that carries nothing waits for nothing. */
-static uint64_t delay_of(const uint64_t *curve, size_t count, uint64_t rate, uint64_t latency, const struct passage *passage)
-{
-    if (count == 1 && curve[0] == 0 && curve[1] == 0)
-        return 0;
-    return latency + quotient_rounded_up(passage->excess, rate);
-}
-
-static uint64_t join_refusal(uint64_t latency, uint64_t next_latency)
-{
-    return latency + next_latency >= RATE_END ? DUCHRELIN_LARGE : 0;
-}
-
-static uint64_t smaller(uint64_t a, uint64_t b) { return a < b ? a : b; }
 
 duchrelin_server plain_join(uint64_t rate, uint64_t latency, uint64_t next_rate, uint64_t next_latency)
 {
@@ -361,12 +347,23 @@ duchrelin_answer plain_behind(const uint64_t *curve, size_t curve_numbers, uint6
     if (too_large_behind(curve, curve_numbers, latency))
         return refused_answer(DUCHRELIN_LARGE);
     size_t count = curve_numbers / 2;
-    struct passage passage = pass(curve, count, rate, latency);
-    size_t left = count_behind(&passage, count);
-    if (out_numbers < 2 * left)
+    size_t k = first_within(curve, count, rate);
+    if (!leads(curve, k, latency)) {
+        size_t from = lowest_at(curve, count, latency);
+        if (out_numbers < 2 * (count - from))
+            return refused_answer(DUCHRELIN_ROOM);
+        write_moved(curve, from, count, latency, out);
+        return (duchrelin_answer){ .code = 0, .count = count - from };
+    }
+    uint64_t excess = excess_by(curve, count, rate, k);
+    size_t flatter = rate_of(curve, k) == rate ? k + 1 : k;
+    size_t from = first_uncovered(curve, count, rate, excess, flatter);
+    if (out_numbers < 2 * (1 + count - from))
         return refused_answer(DUCHRELIN_ROOM);
-    write_behind(curve, count, rate, latency, &passage, out);
-    return (duchrelin_answer){ .code = 0, .count = left };
+    out[0] = rate;
+    out[1] = rate * latency + excess;
+    write_moved(curve, from, count, latency, out + 2);
+    return (duchrelin_answer){ .code = 0, .count = 1 + count - from };
 }
 
 duchrelin_figure plain_backlog(const uint64_t *curve, size_t curve_numbers, uint64_t rate, uint64_t latency)
@@ -374,8 +371,7 @@ duchrelin_figure plain_backlog(const uint64_t *curve, size_t curve_numbers, uint
     uint64_t code = port_refusal(curve, curve_numbers, rate, latency);
     if (code != 0)
         return refused_figure(code);
-    struct passage passage = pass(curve, curve_numbers / 2, rate, latency);
-    return (duchrelin_figure){ .code = 0, .figure = backlog_of(curve, rate, latency, &passage) };
+    return (duchrelin_figure){ .code = 0, .figure = backlog_of(curve, curve_numbers / 2, rate, latency) };
 }
 
 duchrelin_figure plain_delay(const uint64_t *curve, size_t curve_numbers, uint64_t rate, uint64_t latency)
@@ -383,9 +379,7 @@ duchrelin_figure plain_delay(const uint64_t *curve, size_t curve_numbers, uint64
     uint64_t code = port_refusal(curve, curve_numbers, rate, latency);
     if (code != 0)
         return refused_figure(code);
-    size_t count = curve_numbers / 2;
-    struct passage passage = pass(curve, count, rate, latency);
-    return (duchrelin_figure){ .code = 0, .figure = delay_of(curve, count, rate, latency, &passage) };
+    return (duchrelin_figure){ .code = 0, .figure = delay_of(curve, curve_numbers / 2, rate, latency) };
 }
 
 duchrelin_server plain_residual(uint64_t rate, uint64_t latency, const uint64_t *cross, size_t cross_numbers)
@@ -402,109 +396,8 @@ duchrelin_server plain_residual(uint64_t rate, uint64_t latency, const uint64_t 
 }
 
 /*
- * The profile file. A curve's buckets begin six bits into its second byte, and two buckets take fifteen bytes to the bit, so every second
- * bucket begins six bits into a byte again: two buckets are taken from sixteen bytes at once, and the last of an odd count from nine.
+ * The profile file.
  */
-
-enum { EDITION = 1, SERVER_BYTES = 6, BUCKETS_AT = 1, PAIR_BYTES = 15 };
-
-static size_t curve_bytes(size_t count) { return (60 * count + 21) / 8; }
-
-static uint64_t eight_bytes(const uint8_t *at)
-{
-    uint64_t x = 0;
-    for (int i = 0; i < 8; i++)
-        x = x << 8 | at[i];
-    return x;
-}
-
-static void put_eight_bytes(uint8_t *at, uint64_t x)
-{
-    for (int i = 0; i < 8; i++)
-        at[i] = (uint8_t)(x >> (56 - 8 * i));
-}
-
-/* The first bucket from the six bits' end on: its rate and all but two bits of its burst are in the first eight bytes. */
-static void take_first(uint64_t head, uint64_t two_bits, uint64_t *bucket)
-{
-    bucket[0] = head >> 38 & (RATE_END - 1);
-    bucket[1] = (head << 2 | two_bits) & (BURST_END - 1);
-}
-
-static void take_buckets(const uint8_t *file, size_t count, uint64_t *curve)
-{
-    const uint8_t *at = file + BUCKETS_AT;
-    size_t i = 0;
-    for (; i + 1 < count; i += 2, at += PAIR_BYTES) {
-        uint64_t head = eight_bytes(at), tail = eight_bytes(at + 8);
-        take_first(head, tail >> 62, curve + 2 * i);
-        curve[2 * i + 2] = tail >> 42 & (RATE_END - 1);
-        curve[2 * i + 3] = tail >> 2 & (BURST_END - 1);
-    }
-    if (i < count)
-        take_first(eight_bytes(at), at[8] >> 6, curve + 2 * i);
-}
-
-static void put_buckets(const uint64_t *curve, size_t count, uint8_t *file)
-{
-    uint8_t *at = file + BUCKETS_AT;
-    uint64_t six_bits = count - 1;
-    size_t i = 0;
-    for (; i + 1 < count; i += 2, at += PAIR_BYTES) {
-        uint64_t burst = burst_of(curve, i), next_burst = burst_of(curve, i + 1);
-        put_eight_bytes(at, six_bits << 58 | rate_of(curve, i) << 38 | burst >> 2);
-        put_eight_bytes(at + 8, burst << 62 | rate_of(curve, i + 1) << 42 | next_burst << 2);
-        six_bits = next_burst & 63;
-    }
-    if (i < count) {
-        put_eight_bytes(at, six_bits << 58 | rate_of(curve, i) << 38 | burst_of(curve, i) >> 2);
-        at[8] = (uint8_t)(burst_of(curve, i) << 6);
-    }
-}
-
-static size_t count_in(const uint8_t *file) { return (size_t)(file[1] >> 2) + 1; }
-
-static uint64_t padding_of(const uint8_t *file, size_t count)
-{
-    return file[curve_bytes(count) - 1] & (count % 2 != 0 ? 0x3f : 0x03);
-}
-
-static uint64_t kind_in(const uint8_t *file) { return file[0] & 15; }
-
-static uint64_t header_refusal(const uint8_t *file, size_t bytes)
-{
-    if (bytes == 0 || file[0] >> 4 != EDITION)
-        return DUCHRELIN_HEADER;
-    return kind_in(file) == DUCHRELIN_KIND_CURVE || kind_in(file) == DUCHRELIN_KIND_SERVER ? 0 : DUCHRELIN_HEADER;
-}
-
-/* How many bytes the header at the start of some bytes asks for. A curve's count is in its second byte; without that, more bytes than
- * there are. */
-static size_t bytes_due(const uint8_t *file, size_t bytes)
-{
-    if (kind_in(file) == DUCHRELIN_KIND_SERVER)
-        return SERVER_BYTES;
-    return bytes < 2 ? curve_bytes(1) : curve_bytes(count_in(file));
-}
-
-static void take_server(const uint8_t *file, uint64_t *rate, uint64_t *latency)
-{
-    uint64_t numbers = 0;
-    for (int i = 1; i < SERVER_BYTES; i++)
-        numbers = numbers << 8 | file[i];
-    *rate = numbers >> 20;
-    *latency = numbers & (RATE_END - 1);
-}
-
-/* A curve file of the right length, its buckets taken to local memory. No field of a curve can be out of range. */
-static uint64_t take_curve(const uint8_t *file, uint64_t *curve, size_t *count)
-{
-    *count = count_in(file);
-    if (padding_of(file, *count) != 0)
-        return DUCHRELIN_PAD;
-    take_buckets(file, *count, curve);
-    return curve_refusal(curve, 2 * *count);
-}
 
 static duchrelin_profile read_server(const uint8_t *file)
 {
@@ -538,8 +431,6 @@ duchrelin_profile plain_read(const uint8_t *file, size_t file_bytes, uint64_t *o
     return kind_in(file) == DUCHRELIN_KIND_SERVER ? read_server(file) : read_curve(file, out, out_numbers);
 }
 
-static uint8_t header_of(unsigned kind) { return (uint8_t)(EDITION << 4 | kind); }
-
 duchrelin_written plain_write_curve(const uint64_t *curve, size_t curve_numbers, uint8_t *buffer, size_t buffer_bytes)
 {
     uint64_t code = curve_refusal(curve, curve_numbers);
@@ -571,62 +462,8 @@ duchrelin_written plain_write_server(uint64_t rate, uint64_t latency, uint8_t *b
  * The route.
  */
 
-/* The text so far, in local memory: a later refusal takes its place. */
-struct text {
-    size_t count;
-    uint8_t bytes[DUCHRELIN_TEXT_BYTES];
-};
-
-static void put_word(struct text *text, const char *word)
-{
-    for (; *word != '\0'; word++)
-        text->bytes[text->count++] = (uint8_t)*word;
-}
-
-static void put_number(struct text *text, uint64_t number)
-{
-    uint8_t digits[20];
-    size_t count = 0;
-    do {
-        digits[count++] = (uint8_t)('0' + number % 10);
-        number /= 10;
-    } while (number != 0);
-    text->bytes[text->count++] = ' ';
-    while (count > 0)
-        text->bytes[text->count++] = digits[--count];
-}
-
-static void put_figures(struct text *text, const uint64_t *curve, size_t count, uint64_t rate, uint64_t latency,
-                        const struct passage *passage)
-{
-    put_number(text, backlog_of(curve, rate, latency, passage));
-    put_number(text, delay_of(curve, count, rate, latency, passage));
-    put_word(text, "\n");
-}
-
-static void put_refusal(struct text *text, uint64_t code, size_t profile)
-{
-    text->count = 0;
-    put_word(text, "refused");
-    put_number(text, code);
-    put_word(text, " at");
-    put_number(text, profile);
-    put_word(text, "\n");
-}
-
-/* The lines of the header and the length, where a profile of one kind is due. What follows the profile is no concern of it. */
-static uint64_t due_refusal(const uint8_t *input, size_t bytes, uint64_t kind)
-{
-    uint64_t code = header_refusal(input, bytes);
-    if (code != 0)
-        return code;
-    if (kind_in(input) != kind)
-        return DUCHRELIN_HEADER;
-    return bytes < bytes_due(input, bytes) ? DUCHRELIN_LENGTH : 0;
-}
-
-/* The refusal of a server in its place, with the latency of those before it, and its numbers. */
-static uint64_t hop_refusal(const uint8_t *input, size_t bytes, const uint64_t *curve, size_t count, uint64_t latency_before,
+/* The refusal of a server in its place, and its numbers. The latencies of those before it have moved the curve's last bucket. */
+static uint64_t hop_refusal(const uint8_t *input, size_t bytes, const uint64_t *first, size_t count, uint64_t latency_before,
                             uint64_t *rate, uint64_t *latency)
 {
     uint64_t code = due_refusal(input, bytes, DUCHRELIN_KIND_SERVER);
@@ -636,45 +473,39 @@ static uint64_t hop_refusal(const uint8_t *input, size_t bytes, const uint64_t *
     code = server_refusal(*rate, *latency);
     if (code != 0)
         return code;
-    if (last_rate(curve, 2 * count) > *rate)
+    if (last_rate(first, 2 * count) > *rate)
         return DUCHRELIN_UNBOUNDED;
-    if (too_large_behind(curve, 2 * count, *latency))
+    if (too_large_behind(first, 2 * count, latency_before + *latency))
         return DUCHRELIN_LARGE;
     return join_refusal(latency_before, *latency);
 }
 
-/* The servers one after the other, the curve going from hop to hop in `curve`. */
-static void report_hops(struct text *text, const uint8_t *input, size_t bytes, const uint64_t *first, size_t first_count)
+/* No curve goes from hop to hop: the curve behind some servers is the first one behind their joined server, so every figure is one of the
+ * first curve. The backlog of a hop is that of the server joined up to it. What its delay divides by its rate is the backlog that the hop
+ * would have without a latency of its own. */
+static void report_hops(struct text *text, const uint8_t *input, size_t bytes, const uint64_t *first, size_t count)
 {
-    uint64_t curve[CURVE_NUMBERS];
-    size_t count = first_count;
-    memcpy(curve, first, 2 * count * sizeof *curve);
     uint64_t joined_rate = RATE_END, joined_latency = 0;
     size_t hop = 0;
     do {
         uint64_t rate, latency;
         uint64_t code = hop < DUCHRELIN_MOST_SERVERS
-                            ? hop_refusal(input, bytes, curve, count, joined_latency, &rate, &latency)
+                            ? hop_refusal(input, bytes, first, count, joined_latency, &rate, &latency)
                             : DUCHRELIN_COUNT;
         if (code != 0) {
             put_refusal(text, code, hop + 2);
             return;
         }
         hop++;
-        struct passage passage = pass(curve, count, rate, latency);
-        put_word(text, "hop");
-        put_number(text, hop);
-        put_figures(text, curve, count, rate, latency, &passage);
-        write_behind(curve, count, rate, latency, &passage, curve);
-        count = count_behind(&passage, count);
         joined_rate = smaller(joined_rate, rate);
+        uint64_t before_latency = backlog_of(first, count, joined_rate, joined_latency);
+        uint64_t delay = carries_nothing(first, count) ? 0 : latency + quotient_rounded_up(before_latency, rate);
         joined_latency += latency;
+        put_hop(text, hop, backlog_of(first, count, joined_rate, joined_latency), delay);
         input += SERVER_BYTES;
         bytes -= SERVER_BYTES;
     } while (bytes > 0);
-    struct passage passage = pass(first, first_count, joined_rate, joined_latency);
-    put_word(text, "route");
-    put_figures(text, first, first_count, joined_rate, joined_latency, &passage);
+    put_route(text, backlog_of(first, count, joined_rate, joined_latency), delay_of(first, count, joined_rate, joined_latency));
 }
 
 static void report(struct text *text, const uint8_t *input, size_t bytes)
@@ -695,8 +526,5 @@ duchrelin_written plain_route(const uint8_t *input, size_t input_bytes, uint8_t 
     struct text local;
     local.count = 0;
     report(&local, input, input_bytes);
-    if (text_bytes < local.count)
-        return refused_writing(DUCHRELIN_ROOM);
-    memcpy(text, local.bytes, local.count);
-    return (duchrelin_written){ .code = 0, .bytes = local.count };
+    return handed_over(&local, text, text_bytes);
 }

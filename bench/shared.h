@@ -103,6 +103,13 @@ static inline uint64_t port_refusal(const uint64_t *curve, size_t numbers, uint6
     return last_rate(curve, numbers) > rate ? DUCHRELIN_UNBOUNDED : 0;
 }
 
+static inline uint64_t join_refusal(uint64_t latency, uint64_t next_latency)
+{
+    return latency + next_latency >= RATE_END ? DUCHRELIN_LARGE : 0;
+}
+
+static inline uint64_t smaller(uint64_t a, uint64_t b) { return a < b ? a : b; }
+
 /*
  * Answers.
  */
