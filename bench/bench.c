@@ -1,6 +1,6 @@
 /*
- * Times every function of duchrelin.h beside the same question in plain C, on the same inputs and in turns, and measures the stack that
- * each takes. Prints tables in Markdown.
+ * Times every function of duchrelin.h beside the same question in plain C, on the same inputs and in turns, and measures the
+ * stack that each takes. Prints tables in Markdown.
  */
 #define _POSIX_C_SOURCE 200809L
 #include "inputs.h"
@@ -105,8 +105,8 @@ static void route(const struct library *l, const struct input *i, struct outcome
 }
 
 /*
- * The cases: what is asked, over which inputs, and whether the named form answers it too. A question whose cost is far above the others'
- * is asked over few inputs.
+ * The cases: what is asked, over which inputs, and whether the named form answers it too. A question whose cost is far above
+ * the others' is asked over few inputs.
  */
 
 struct timing_case {
@@ -219,8 +219,8 @@ static bool all_agree(const struct timing_case *c)
 }
 
 /*
- * Time. A round asks every input so many times over; the libraries take turns round by round, and the fastest round counts: whatever else
- * the machine does can only add to a round. It is the thread's own processor time.
+ * Time. A round asks every input so many times over; the libraries take turns round by round, and the fastest round counts:
+ * whatever else the machine does can only add to a round. It is the thread's own processor time.
  */
 
 static double now(void)

@@ -1,5 +1,7 @@
-"""Holds the plain C of this directory against the rules, on random inputs: the figures and curves by their definitions with exact numbers,
-the profile file bit by bit, the route hop by hop. Usage: check.py LIBRARY PREFIX.. where a library has functions PREFIX_normalise and so on.
+"""Holds the plain C of this directory against the rules, on random inputs: the figures and curves by their definitions with
+exact numbers, the profile file bit by bit, the route hop by hop.
+
+Usage: check.py LIBRARY PREFIX.. where the library has functions PREFIX_normalise and so on.
 """
 
 import ctypes
@@ -305,7 +307,9 @@ class Library:
 
 
 def some(rng, end):
-    return rng.choice([rng.randrange(min(end, 8)), rng.randrange(min(end, 30)), rng.randrange(end), end - 1 - rng.randrange(min(end, 3))])
+    """A number below an end: small, any, or close to the end."""
+    near_the_end = end - 1 - rng.randrange(min(end, 3))
+    return rng.choice([rng.randrange(min(end, 8)), rng.randrange(min(end, 30)), rng.randrange(end), near_the_end])
 
 
 def raw_list(rng, most, rates, bursts):
@@ -570,8 +574,9 @@ def main(path, prefixes, rounds):
             one_round(c, rng, tally)
         names = [name for name in tally if isinstance(name, str)]
         shown = names + ["route text"]
+        counted = sorted(key for key in tally if not isinstance(key, str))
         for name in shown:
-            codes = ["%d: %d" % (key[1], tally[key]) for key in sorted(k for k in tally if not isinstance(k, str)) if key[0] == name]
+            codes = ["%d: %d" % (key[1], tally[key]) for key in counted if key[0] == name]
             print("%s %s, by code: %s" % (prefix, name, ", ".join(codes)))
         passed += sum(tally[name] for name in names)
     print("%d passed, 0 failed" % passed)

@@ -5,8 +5,8 @@
 
 enum { MOST_BUCKETS = DUCHRELIN_MOST_BUCKETS, HOPS = DUCHRELIN_MOST_SERVERS };
 
-/* Steps of rates and of crossings are drawn below these, so that two rates added, and bursts added or moved by any latency drawn here, stay
- * within their ranges. */
+/* Steps of rates and of crossings are drawn below these, so that two rates added, and bursts added or moved by any latency
+ * drawn here, stay within their ranges. */
 enum { MOST_FALL = 1 << 12, MOST_PAUSE = 1 << 12, MOST_LAST_RATE = 1 << 17, MOST_FIRST_BURST = 1 << 20, MOST_LATENCY = 1 << 17 };
 
 /* A number from 0 to below - 1, of a sequence that the state holds. */

@@ -1,5 +1,5 @@
-/* Inputs for the benchmark: curves of a given count of buckets, all useful, with servers, ticks and files that go with them. Each is drawn
- * from a seed, so that every run asks the same. */
+/* Inputs for the benchmark: curves of a given count of buckets, all useful, with servers, ticks and files that go with them.
+ * Each is drawn from a seed, so that every run asks the same. */
 #ifndef INPUTS_H
 #define INPUTS_H
 

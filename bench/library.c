@@ -38,7 +38,8 @@ static duchrelin_answer idle_lower(const uint64_t *f, size_t f_numbers, const ui
     return (duchrelin_answer){ 0 };
 }
 
-static duchrelin_answer idle_shape(const uint64_t *curve, size_t curve_numbers, uint64_t link_rate, uint64_t *out, size_t out_numbers)
+static duchrelin_answer idle_shape(const uint64_t *curve, size_t curve_numbers, uint64_t link_rate,
+                                   uint64_t *out, size_t out_numbers)
 {
     (void)curve, (void)curve_numbers, (void)link_rate, (void)out, (void)out_numbers;
     return (duchrelin_answer){ 0 };

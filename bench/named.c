@@ -6,8 +6,8 @@ struct bucket {
     uint64_t rate, burst;
 };
 
-/* The times at which a candidate lies below the buckets seen so far: after low/low_over and before high/high_over, where a high_over
- * of 0 is no end. */
+/* The times at which a candidate lies below the buckets seen so far: after low/low_over and before high/high_over, where a
+ * high_over of 0 is no end. */
 struct ends {
     uint64_t low, low_over, high, high_over;
 };

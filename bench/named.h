@@ -1,8 +1,8 @@
 /*
- * The questions that end in a normal form, in plain C once more, now in the form that the rules name for the search: loops over pairs of
- * buckets, the inner one left by label at the first proof that the candidate is useless. The route takes its curve from hop to hop that
- * way. It tells what of a ratio is owed to the form, and what to the compiler. Answers and refusals are those of the functions of the same
- * name in duchrelin.h.
+ * The questions that end in a normal form, in plain C once more, now in the form that the rules name for the search: loops over
+ * pairs of buckets, the inner one left by label at the first proof that the candidate is useless. The route takes its curve
+ * from hop to hop that way. It tells what of a ratio is owed to the form, and what to the compiler. Answers and refusals are
+ * those of the functions of the same name in duchrelin.h.
  */
 #ifndef NAMED_H
 #define NAMED_H

@@ -24,8 +24,8 @@ static bool covers_last(const struct hull *hull, uint64_t rate, uint64_t burst)
            >= (burst - burst_of(hull->buckets, last)) * fall_after(hull->buckets, last - 1);
 }
 
-/* Takes the next bucket by falling rates, and by rising bursts among those of one rate: a second one of the same rate is useless, any
- * other is the lowest in the end. */
+/* Takes the next bucket by falling rates, and by rising bursts among those of one rate: a second one of the same rate is
+ * useless, any other is the lowest in the end. */
 static void add_next(struct hull *hull, uint64_t rate, uint64_t burst)
 {
     if (hull->count > 0 && rate_of(hull->buckets, hull->count - 1) == rate)
@@ -51,7 +51,8 @@ static void put_in_order(uint64_t *keys, int a, int b)
 
 enum { RUN = 8 };
 
-/* Eight keys by a sorting network: no branch depends on them, so none is guessed wrong. Exchanges of one line do not touch each other. */
+/* Eight keys by a sorting network: no branch depends on them, so none is guessed wrong. Exchanges of one line do not touch each
+ * other. */
 static void sort_run(uint64_t keys[RUN])
 {
     put_in_order(keys, 0, 2), put_in_order(keys, 1, 3), put_in_order(keys, 4, 6), put_in_order(keys, 5, 7);
@@ -62,26 +63,25 @@ static void sort_run(uint64_t keys[RUN])
     put_in_order(keys, 1, 2), put_in_order(keys, 3, 4), put_in_order(keys, 5, 6);
 }
 
-/* Two runs of one length, one after the other, merged from both ends at once: half the keys from the front and half from the back, so that
- * neither end runs past a run and the two chains of choices do not wait for each other. */
+/* Two runs of one length, one after the other, merged from both ends at once: half the keys from the front and half from the
+ * back, so that neither end runs past a run and the two chains of choices do not wait for each other. */
 static void merge_runs(const uint64_t *runs, size_t length, uint64_t *out)
 {
-    const uint64_t *low = runs, *low_next = runs + length;
-    const uint64_t *high_before = runs + length - 1, *high = runs + 2 * length - 1;
+    size_t low = 0, low_next = length, high_before = length - 1, high = 2 * length - 1;
     for (size_t i = 0; i < length; i++) {
-        bool first = *low <= *low_next;
-        out[i] = first ? *low : *low_next;
+        bool first = runs[low] <= runs[low_next];
+        out[i] = first ? runs[low] : runs[low_next];
         low += first;
         low_next += !first;
-        bool last = *high_before <= *high;
-        out[2 * length - 1 - i] = last ? *high : *high_before;
+        bool last = runs[high_before] <= runs[high];
+        out[2 * length - 1 - i] = last ? runs[high] : runs[high_before];
         high -= last;
         high_before -= !last;
     }
 }
 
-/* The keys in the first half of the table in order, `count` of them; where they are then. They are filled up to runs of one length, two of
- * which are merged at a time, between the two halves of the table. */
+/* The keys in the first half of the table in order, `count` of them; where they are then. They are filled up to runs of one
+ * length, two of which are merged at a time, between the two halves of the table. */
 static const uint64_t *sorted(uint64_t table[2][MOST_BUCKETS], size_t count)
 {
     size_t filled = RUN;
@@ -144,8 +144,14 @@ duchrelin_answer plain_lower(const uint64_t *f, size_t f_numbers, const uint64_t
     return placed(hull.buckets, hull.count, out, out_numbers);
 }
 
-/* The sum changes its bucket where one of the two curves does, so its buckets are met in the order of the crossings, and the two steps
- * are one where the crossings are at the same time. Its first rate and its last burst are its greatest. */
+static void put_added(uint64_t *bucket, const uint64_t *f, size_t i, const uint64_t *g, size_t j)
+{
+    bucket[0] = rate_of(f, i) + rate_of(g, j);
+    bucket[1] = burst_of(f, i) + burst_of(g, j);
+}
+
+/* The sum changes its bucket where one of the two curves does, so its buckets are met in the order of the crossings, and the two
+ * steps are one where the crossings are at the same time. Its first rate and its last burst are its greatest. */
 duchrelin_answer plain_sum(const uint64_t *f, size_t f_numbers, const uint64_t *g, size_t g_numbers,
                            uint64_t *out, size_t out_numbers)
 {
@@ -157,26 +163,19 @@ duchrelin_answer plain_sum(const uint64_t *f, size_t f_numbers, const uint64_t *
     size_t f_last = f_numbers / 2 - 1, g_last = g_numbers / 2 - 1;
     uint64_t buckets[2 * CURVE_NUMBERS];
     size_t count = 0, i = 0, j = 0;
-    for (;;) {
-        buckets[2 * count] = rate_of(f, i) + rate_of(g, j);
-        buckets[2 * count + 1] = burst_of(f, i) + burst_of(g, j);
-        count++;
-        if (i == f_last || j == g_last)
-            break;
+    put_added(buckets, f, i, g, j);
+    while (i < f_last && j < g_last) {
         uint64_t f_time = rise_after(f, i) * fall_after(g, j);
         uint64_t g_time = rise_after(g, j) * fall_after(f, i);
         i += f_time <= g_time;
         j += g_time <= f_time;
+        put_added(buckets + 2 * ++count, f, i, g, j);
     }
-    for (i++; i <= f_last; i++, count++) {
-        buckets[2 * count] = rate_of(f, i) + rate_of(g, g_last);
-        buckets[2 * count + 1] = burst_of(f, i) + burst_of(g, g_last);
-    }
-    for (j++; j <= g_last; j++, count++) {
-        buckets[2 * count] = rate_of(f, f_last) + rate_of(g, j);
-        buckets[2 * count + 1] = burst_of(f, f_last) + burst_of(g, j);
-    }
-    return placed(buckets, count, out, out_numbers);
+    while (i < f_last)
+        put_added(buckets + 2 * ++count, f, ++i, g, j);
+    while (j < g_last)
+        put_added(buckets + 2 * ++count, f, i, g, ++j);
+    return placed(buckets, count + 1, out, out_numbers);
 }
 
 /*
@@ -259,8 +258,9 @@ duchrelin_answer plain_shape(const uint64_t *curve, size_t curve_numbers, uint64
 
 static uint64_t ahead(uint64_t value, uint64_t rate, uint64_t tick) { return value > rate * tick ? value - rate * tick : 0; }
 
-/* The most by which the curve is ahead of a server's rate at a whole tick, where bucket k is the first within the rate. It is so at one of
- * the two ticks around the crossing with the bucket before: up to it the lowest bucket is k-1 or one before that, past it k or one after. */
+/* The most by which the curve is ahead of a server's rate at a whole tick, where bucket k is the first within the rate. It is
+ * so at one of the two ticks around the crossing with the bucket before: up to it the lowest bucket is k-1 or one before that,
+ * past it k or one after. */
 static uint64_t excess_by(const uint64_t *curve, size_t count, uint64_t rate, size_t k)
 {
     if (k == 0)
@@ -282,8 +282,8 @@ static uint64_t excess_of(const uint64_t *curve, size_t count, uint64_t rate)
     return excess_by(curve, count, rate, first_within(curve, count, rate));
 }
 
-/* Whether the latency ends before the curve comes within the server's rate. Then the server's own bucket is the first of the curve behind;
- * otherwise it is of no use. */
+/* Whether the latency ends before the curve comes within the server's rate. Then the server's own bucket is the first of the
+ * curve behind; otherwise it is of no use. */
 static bool leads(const uint64_t *curve, size_t k, uint64_t latency)
 {
     return k > 0 && latency * fall_after(curve, k - 1) < rise_after(curve, k - 1);
@@ -480,9 +480,9 @@ static uint64_t hop_refusal(const uint8_t *input, size_t bytes, const uint64_t *
     return join_refusal(latency_before, *latency);
 }
 
-/* No curve goes from hop to hop: the curve behind some servers is the first one behind their joined server, so every figure is one of the
- * first curve. The backlog of a hop is that of the server joined up to it. What its delay divides by its rate is the backlog that the hop
- * would have without a latency of its own. */
+/* No curve goes from hop to hop: the curve behind some servers is the first one behind their joined server, so every figure is
+ * one of the first curve. The backlog of a hop is that of the server joined up to it. What its delay divides by its rate is the
+ * backlog that the hop would have without a latency of its own. */
 static void report_hops(struct text *text, const uint8_t *input, size_t bytes, const uint64_t *first, size_t count)
 {
     uint64_t joined_rate = RATE_END, joined_latency = 0;

@@ -1,7 +1,7 @@
 /*
- * The whole C surface of Duchrelin once more, in plain C and with the fastest way that we know for each question. It is the yardstick
- * that the proved library is timed against. Each function takes what the function of the same name in duchrelin.h takes, and gives
- * the same answers and the same refusals.
+ * The whole C surface of Duchrelin once more, in plain C and with the fastest way that we know for each question. It is the
+ * yardstick that the proved library is timed against. Each function takes what the function of the same name in duchrelin.h
+ * takes, and gives the same answers and the same refusals.
  */
 #ifndef PLAIN_H
 #define PLAIN_H

@@ -5,8 +5,9 @@
 #include "shared.h"
 
 /*
- * The profile file. A curve's buckets begin six bits into its second byte, and two buckets take fifteen bytes to the bit, so every second
- * bucket begins six bits into a byte again: two buckets are taken from sixteen bytes at once, and the last of an odd count from nine.
+ * The profile file. A curve's buckets begin six bits into its second byte, and two buckets take fifteen bytes to the bit, so
+ * every second bucket begins six bits into a byte again: two buckets are taken from sixteen bytes at once, and the last of an
+ * odd count from nine.
  */
 
 enum { EDITION = 1, SERVER_BYTES = 6, BUCKETS_AT = 1, PAIR_BYTES = 15 };
@@ -88,8 +89,8 @@ static inline uint64_t header_refusal(const uint8_t *file, size_t bytes)
     return kind_in(file) == DUCHRELIN_KIND_CURVE || kind_in(file) == DUCHRELIN_KIND_SERVER ? 0 : DUCHRELIN_HEADER;
 }
 
-/* How many bytes the header at the start of some bytes asks for. A curve's count is in its second byte; without that, more bytes than
- * there are. */
+/* How many bytes the header at the start of some bytes asks for. A curve's count is in its second byte; without that, more
+ * bytes than there are. */
 static inline size_t bytes_due(const uint8_t *file, size_t bytes)
 {
     if (kind_in(file) == DUCHRELIN_KIND_SERVER)

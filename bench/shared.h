@@ -19,8 +19,15 @@ static inline uint64_t rate_of(const uint64_t *list, size_t bucket) { return lis
 static inline uint64_t burst_of(const uint64_t *list, size_t bucket) { return list[2 * bucket + 1]; }
 
 /* Two neighbours of a curve, this bucket and the next one, cross at rise/fall. */
-static inline uint64_t rise_after(const uint64_t *curve, size_t bucket) { return burst_of(curve, bucket + 1) - burst_of(curve, bucket); }
-static inline uint64_t fall_after(const uint64_t *curve, size_t bucket) { return rate_of(curve, bucket) - rate_of(curve, bucket + 1); }
+static inline uint64_t rise_after(const uint64_t *curve, size_t bucket)
+{
+    return burst_of(curve, bucket + 1) - burst_of(curve, bucket);
+}
+
+static inline uint64_t fall_after(const uint64_t *curve, size_t bucket)
+{
+    return rate_of(curve, bucket) - rate_of(curve, bucket + 1);
+}
 
 static inline uint64_t quotient_rounded_up(uint64_t x, uint64_t by) { return (x + by - 1) / by; }
 
@@ -55,9 +62,9 @@ static inline uint64_t raw_refusal(const uint64_t *list, size_t numbers)
     return beyond != 0 ? DUCHRELIN_RANGE : 0;
 }
 
-/* Normal form is seen from neighbours: rates fall, bursts rise, and each crossing comes after the one before. The loop gathers what is
- * wrong and leaves nowhere, since almost every list is right. Where a number is out of range the products may wrap round, and then
- * nobody looks at `unformed`. */
+/* Normal form is seen from neighbours: rates fall, bursts rise, and each crossing comes after the one before. The loop gathers
+ * what is wrong and leaves nowhere, since almost every list is right. Where a number is out of range the products may wrap
+ * round, and then nobody looks at `unformed`. */
 static inline uint64_t curve_refusal(const uint64_t *list, size_t numbers)
 {
     uint64_t code = length_refusal(numbers);
