@@ -328,13 +328,16 @@ def long_curve(rng, count, scale, spread):
 
 
 def some_curve(rng):
-    shape = rng.randrange(6)
+    shape = rng.randrange(8)
     if shape == 0:
         return long_curve(rng, rng.choice([1, 2, 3, 8, 63, 64]), rng.choice([1, 5, 100]), rng.choice([1, 4]))
     if shape == 1:
         return ref.normal_form([(some(rng, RATE_END), some(rng, BURST_END)) for _ in range(rng.randint(1, 6))])
     if shape == 2:
         return ref.normal_form(raw_list(rng, 20, 30, 200))
+    if shape in (3, 4):
+        # Many crossings between the same two ticks.
+        return ref.normal_form(raw_list(rng, 16, rng.choice([12, 100, 1000]), rng.choice([5, 9])))
     return ref.normal_form(raw_list(rng, 6, rng.choice([4, 12]), rng.choice([4, 12, 40])))
 
 
@@ -394,12 +397,21 @@ def some_server(rng):
     return rate, latency
 
 
+def some_crossing(rng, curve):
+    """The tick at which two neighbours cross, or the one before or after it."""
+    k = rng.randrange(len(curve))
+    if k == 0 or curve[k - 1][0] <= curve[k][0]:
+        return 0
+    tick = (curve[k][1] - curve[k - 1][1]) // (curve[k - 1][0] - curve[k][0])
+    return min(RATE_END, max(0, tick + rng.choice([-1, 0, 0, 1])))
+
+
 def fitting_server(rng, curve):
-    """Often a server whose rate is one of the curve's or close to it."""
-    if rng.randrange(3) == 0:
+    """Often a server whose rate is one of the curve's or close to it, and whose latency ends close to a crossing."""
+    if rng.randrange(4) == 0:
         return some_server(rng)
     rate = max(1, min(RATE_END - 1, rng.choice(curve)[0] + rng.choice([-1, 0, 0, 1])))
-    return rate, rng.choice([0, 1, 2, rng.randrange(12), rng.randrange(70), some(rng, RATE_END)])
+    return rate, rng.choice([0, 1, 2, rng.randrange(12), rng.randrange(70), some_crossing(rng, curve), some(rng, RATE_END)])
 
 
 def some_file(rng):
@@ -543,6 +555,7 @@ def scope_figures(c):
     curve_is("behind", [list64([3, 32]), 5, 2], [3, 38])
     curve_is("behind", [list64(curve), 5, 6], [3, 38])
     curve_is("behind", [list64([5, 7]), 5, 2], [5, 17])
+    curve_is("behind", [list64([8, 0, 3, 1, 1, 2, 0, 3]), 3, 0], [3, 0, 0, 3])
     figure_is("backlog", [list64(curve), 6, 1], 0, 17)
     figure_is("delay", [list64(curve), 6, 1], 0, 3)
     figure_is("backlog", [list64(curve), 6, 4], 0, 32)
