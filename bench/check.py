@@ -586,7 +586,7 @@ def main(path, prefixes, rounds):
         for _ in range(rounds):
             one_round(c, rng, tally)
         names = [name for name in tally if isinstance(name, str)]
-        shown = names + ["route text"]
+        shown = names + (["route text"] if "route" in names else [])
         counted = sorted(key for key in tally if not isinstance(key, str))
         for name in shown:
             codes = ["%d: %d" % (key[1], tally[key]) for key in counted if key[0] == name]
