@@ -274,8 +274,9 @@ static void print_nanoseconds(double x) { printf(x < 99.95 ? " %.1f |" : " %.0f 
 
 static void print_compared(double archive, double other)
 {
+    double ratio = archive / other;
     print_nanoseconds(other);
-    printf(" %.2f |", archive / other);
+    printf(ratio < 99.5 ? " %.2f |" : " %.0f |", ratio);
 }
 
 static void print_case(const struct timing_case *c, const double nanoseconds[])

@@ -573,6 +573,13 @@ def scope_figures(c):
     file_is("write_curve", [list64([10, 2])], bytes.fromhex("11000002800000000080"))
     hops = curve_file([(10, 2), (3, 20)]) + server_file((6, 4)) + server_file((5, 2))
     file_is("route", [list8(hops)], b"hop 1 32 6\nhop 2 38 9\nroute 38 9\n")
+    if c.has("route"):
+        # The longest text there is, in a buffer of its length and in one a byte shorter.
+        long_way = list8(curve_file([(0, BURST_END - 1)]) + server_file((1, 0)) * 32)
+        text = list(route_text(list(long_way)).encode())
+        expect("the longest text", len(text), 1145)
+        expect("route, just room enough", c.call("route", [long_way], list8([7] * 1145)), (0, 1145, text))
+        expect("route, a byte short", c.call("route", [long_way], list8([7] * 1144)), (ROOM, 0, [7] * 1144))
 
 
 def main(path, prefixes, rounds):
