@@ -1,59 +1,381 @@
-/* Times the operations on curves of 64 buckets: the best of several rounds, in nanoseconds a call. */
+/*
+ * Times every function of duchrelin.h beside the same question in plain C, on the same inputs and in turns, and measures the
+ * stack that each takes. Prints tables in Markdown.
+ */
 #define _POSIX_C_SOURCE 200809L
-#include "duchrelin.h"
+#include "inputs.h"
+#include "library.h"
+#include "stack.h"
 
 #include <inttypes.h>
+#include <stdbool.h>
 #include <stdio.h>
+#include <string.h>
 #include <time.h>
 
-enum { BUCKETS = 64, NUMBERS = 2 * BUCKETS, ROUNDS = 7 };
+enum { CURVE_NUMBERS = DUCHRELIN_CURVE_NUMBERS, MOST_INPUTS = 16 };
 
-static uint64_t stairs[NUMBERS], turned[NUMBERS], wide[NUMBERS], out[NUMBERS];
+/* What a call answers and leaves behind. */
+struct outcome {
+    uint64_t figures[5];
+    uint64_t list[CURVE_NUMBERS];
+    uint8_t bytes[DUCHRELIN_TEXT_BYTES];
+};
 
-static uint64_t now(void)
+/*
+ * The questions, each put to one library.
+ */
+
+typedef void question(const struct library *library, const struct input *input, struct outcome *outcome);
+
+static void keep_answer(struct outcome *o, duchrelin_answer a) { memcpy(o->figures, &a, sizeof a); }
+static void keep_figure(struct outcome *o, duchrelin_figure a) { memcpy(o->figures, &a, sizeof a); }
+static void keep_server(struct outcome *o, duchrelin_server a) { memcpy(o->figures, &a, sizeof a); }
+static void keep_profile(struct outcome *o, duchrelin_profile a) { memcpy(o->figures, &a, sizeof a); }
+static void keep_written(struct outcome *o, duchrelin_written a) { memcpy(o->figures, &a, sizeof a); }
+
+static void normalise(const struct library *l, const struct input *i, struct outcome *o)
 {
-    struct timespec t;
-    clock_gettime(CLOCK_MONOTONIC, &t);
-    return (uint64_t)t.tv_sec * UINT64_C(1000000000) + (uint64_t)t.tv_nsec;
+    keep_answer(o, l->normalise(i->f, i->f_numbers, o->list, CURVE_NUMBERS));
 }
 
-/* Each question, with the code that it must give. */
-static uint64_t normalise(void) { return duchrelin_normalise(turned, NUMBERS, out, NUMBERS).code; }
-static uint64_t value(void) { return duchrelin_value(stairs, NUMBERS, 1000).code; }
-static uint64_t sum_same(void) { return duchrelin_sum(stairs, NUMBERS, stairs, NUMBERS, out, NUMBERS).code; }
-static uint64_t sum_wide(void) { return duchrelin_sum(wide, NUMBERS, stairs, NUMBERS, out, NUMBERS).code; }
-
-static int timed(const char *name, uint64_t (*question)(void), unsigned calls)
+static void value(const struct library *l, const struct input *i, struct outcome *o)
 {
-    uint64_t best = UINT64_MAX;
-    for (int round = 0; round < ROUNDS; round++) {
-        uint64_t start = now();
-        for (unsigned i = 0; i < calls; i++)
-            if (question() != 0) {
-                printf("%s was refused\n", name);
-                return 1;
+    keep_figure(o, l->value(i->f, i->f_numbers, i->tick));
+}
+
+static void lower(const struct library *l, const struct input *i, struct outcome *o)
+{
+    keep_answer(o, l->lower(i->f, i->f_numbers, i->g, i->g_numbers, o->list, CURVE_NUMBERS));
+}
+
+static void sum(const struct library *l, const struct input *i, struct outcome *o)
+{
+    keep_answer(o, l->sum(i->f, i->f_numbers, i->g, i->g_numbers, o->list, CURVE_NUMBERS));
+}
+
+static void shape(const struct library *l, const struct input *i, struct outcome *o)
+{
+    keep_answer(o, l->shape(i->f, i->f_numbers, i->link_rate, o->list, CURVE_NUMBERS));
+}
+
+static void join(const struct library *l, const struct input *i, struct outcome *o)
+{
+    keep_server(o, l->join(i->rate, i->latency, i->next_rate, i->next_latency));
+}
+
+static void behind(const struct library *l, const struct input *i, struct outcome *o)
+{
+    keep_answer(o, l->behind(i->f, i->f_numbers, i->rate, i->latency, o->list, CURVE_NUMBERS));
+}
+
+static void backlog(const struct library *l, const struct input *i, struct outcome *o)
+{
+    keep_figure(o, l->backlog(i->f, i->f_numbers, i->rate, i->latency));
+}
+
+static void delay(const struct library *l, const struct input *i, struct outcome *o)
+{
+    keep_figure(o, l->delay(i->f, i->f_numbers, i->rate, i->latency));
+}
+
+static void residual(const struct library *l, const struct input *i, struct outcome *o)
+{
+    keep_server(o, l->residual(i->rate, i->latency, i->f, i->f_numbers));
+}
+
+static void read_profile(const struct library *l, const struct input *i, struct outcome *o)
+{
+    keep_profile(o, l->read(i->bytes, i->byte_count, o->list, CURVE_NUMBERS));
+}
+
+static void write_curve(const struct library *l, const struct input *i, struct outcome *o)
+{
+    keep_written(o, l->write_curve(i->f, i->f_numbers, o->bytes, sizeof o->bytes));
+}
+
+static void write_server(const struct library *l, const struct input *i, struct outcome *o)
+{
+    keep_written(o, l->write_server(i->rate, i->latency, o->bytes, sizeof o->bytes));
+}
+
+static void route(const struct library *l, const struct input *i, struct outcome *o)
+{
+    keep_written(o, l->route(i->bytes, i->byte_count, o->bytes, sizeof o->bytes));
+}
+
+/*
+ * The cases: what is asked, over which inputs, and whether the named form answers it too. A question whose cost is far above
+ * the others' is asked over few inputs.
+ */
+
+struct timing_case {
+    const char *function;
+    const char *over;
+    question *ask;
+    maker *make;
+    size_t buckets;
+    size_t inputs;
+    bool named;
+};
+
+static const struct timing_case cases[] = {
+    { "normalise", "a curve as it is", normalise, make_one_curve, 1, 16, true },
+    { "normalise", "a curve as it is", normalise, make_one_curve, 8, 16, true },
+    { "normalise", "a curve as it is", normalise, make_one_curve, 64, 16, true },
+    { "normalise", "shuffled, all useful", normalise, make_shuffled, 8, 16, true },
+    { "normalise", "shuffled, all useful", normalise, make_shuffled, 64, 16, true },
+    { "normalise", "shuffled, few useful", normalise, make_mostly_useless, 8, 16, true },
+    { "normalise", "shuffled, few useful", normalise, make_mostly_useless, 64, 16, true },
+    { "value", "", value, make_one_curve, 1, 16, false },
+    { "value", "", value, make_one_curve, 8, 16, false },
+    { "value", "", value, make_one_curve, 64, 16, false },
+    { "lower", "two curves that cross", lower, make_two_curves, 1, 16, true },
+    { "lower", "two curves that cross", lower, make_two_curves, 8, 16, true },
+    { "lower", "two curves that cross", lower, make_two_curves, 64, 16, true },
+    { "sum", "steps that differ", sum, make_summands, 1, 16, true },
+    { "sum", "steps that differ", sum, make_summands, 8, 16, true },
+    { "sum", "steps that differ", sum, make_summands, 64, 2, true },
+    { "sum", "steps of one size", sum, make_stairs, 64, 16, true },
+    { "shape", "", shape, make_one_curve, 1, 16, true },
+    { "shape", "", shape, make_one_curve, 8, 16, true },
+    { "shape", "", shape, make_one_curve, 64, 16, true },
+    { "join", "", join, make_servers, 0, 16, false },
+    { "behind", "", behind, make_curve_and_server, 1, 16, true },
+    { "behind", "", behind, make_curve_and_server, 8, 16, true },
+    { "behind", "", behind, make_curve_and_server, 64, 16, true },
+    { "backlog", "", backlog, make_curve_and_server, 1, 16, false },
+    { "backlog", "", backlog, make_curve_and_server, 8, 16, false },
+    { "backlog", "", backlog, make_curve_and_server, 64, 16, false },
+    { "delay", "", delay, make_curve_and_server, 1, 16, false },
+    { "delay", "", delay, make_curve_and_server, 8, 16, false },
+    { "delay", "", delay, make_curve_and_server, 64, 16, false },
+    { "residual", "", residual, make_cross_and_server, 1, 16, false },
+    { "residual", "", residual, make_cross_and_server, 8, 16, false },
+    { "residual", "", residual, make_cross_and_server, 64, 16, false },
+    { "read", "a curve", read_profile, make_curve_file, 1, 16, false },
+    { "read", "a curve", read_profile, make_curve_file, 8, 16, false },
+    { "read", "a curve", read_profile, make_curve_file, 64, 16, false },
+    { "read", "a server", read_profile, make_server_file, 0, 16, false },
+    { "write_curve", "", write_curve, make_one_curve, 1, 16, false },
+    { "write_curve", "", write_curve, make_one_curve, 8, 16, false },
+    { "write_curve", "", write_curve, make_one_curve, 64, 16, false },
+    { "write_server", "", write_server, make_servers, 0, 16, false },
+    { "route", "32 hops, all buckets stay", route, make_route_of_full_curves, 1, 16, true },
+    { "route", "32 hops, all buckets stay", route, make_route_of_full_curves, 8, 16, true },
+    { "route", "32 hops, all buckets stay", route, make_route_of_full_curves, 64, 16, true },
+    { "route", "32 hops, each cuts", route, make_route_of_cuts, 64, 16, true },
+};
+
+enum { CASES = sizeof cases / sizeof cases[0] };
+
+enum { ARCHIVE, PLAIN, NAMED, LIBRARIES };
+static const struct library *const libraries[LIBRARIES] = { &archive_library, &plain_library, &named_library };
+static const char *const library_names[LIBRARIES] = { "the archive", "plain C", "the named form" };
+
+static bool answers(int library, const struct timing_case *c) { return library != NAMED || c->named; }
+
+static struct input inputs[MOST_INPUTS];
+
+static void make_inputs(const struct timing_case *c)
+{
+    memset(inputs, 0, sizeof inputs);
+    for (size_t i = 0; i < c->inputs; i++)
+        c->make(&inputs[i], c->buckets, 1 + i);
+}
+
+/*
+ * All libraries give one answer, and it is no refusal.
+ */
+
+static void asked_fresh(const struct timing_case *c, int library, size_t i, struct outcome *outcome)
+{
+    memset(outcome, 0x5a, sizeof *outcome);
+    c->ask(libraries[library], &inputs[i], outcome);
+}
+
+static bool all_agree(const struct timing_case *c)
+{
+    for (size_t i = 0; i < c->inputs; i++) {
+        struct outcome plain;
+        asked_fresh(c, PLAIN, i, &plain);
+        if (plain.figures[0] != DUCHRELIN_ANSWERED) {
+            fprintf(stderr, "%s, %zu buckets, input %zu: refused, %" PRIu64 "\n", c->function, c->buckets, i, plain.figures[0]);
+            return false;
+        }
+        for (int library = 0; library < LIBRARIES; library++) {
+            struct outcome other;
+            if (!answers(library, c))
+                continue;
+            asked_fresh(c, library, i, &other);
+            if (memcmp(&plain, &other, sizeof plain) != 0) {
+                fprintf(stderr, "%s, %zu buckets, input %zu: %s answers otherwise than plain C\n", c->function, c->buckets, i,
+                        library_names[library]);
+                return false;
             }
-        uint64_t took = (now() - start) / calls;
-        if (took < best)
-            best = took;
+        }
     }
-    printf("%-56s %10" PRIu64 " ns\n", name, best);
-    return 0;
+    return true;
+}
+
+/*
+ * Time. A round asks every input so many times over; the libraries take turns round by round, and the fastest round counts:
+ * whatever else the machine does can only add to a round. It is the thread's own processor time.
+ */
+
+static double now(void)
+{
+    struct timespec t;
+    clock_gettime(CLOCK_THREAD_CPUTIME_ID, &t);
+    return (double)t.tv_sec * 1e9 + (double)t.tv_nsec;
+}
+
+static struct outcome scratch;
+
+static double time_round(const struct timing_case *c, const struct library *library, unsigned passes)
+{
+    double start = now();
+    for (unsigned pass = 0; pass < passes; pass++)
+        for (size_t i = 0; i < c->inputs; i++)
+            c->ask(library, &inputs[i], &scratch);
+    return now() - start;
+}
+
+#define SHORTEST_ROUND 1e6
+#define TIME_FOR_ONE_CASE 1.2e9
+enum { MOST_ROUNDS = 41, FEWEST_ROUNDS = 3 };
+
+/* How many passes make a round long enough for the clock. */
+static unsigned passes_of_a_round(const struct timing_case *c, const struct library *library)
+{
+    unsigned passes = 1;
+    while (time_round(c, library, passes) < SHORTEST_ROUND)
+        passes *= 2;
+    return passes;
+}
+
+static void time_case(const struct timing_case *c, const struct library *const timed[], int count, double nanoseconds[])
+{
+    unsigned passes[LIBRARIES];
+    for (int l = 0; l < count; l++) {
+        passes[l] = passes_of_a_round(c, timed[l]);
+        nanoseconds[l] = 1e300;
+    }
+    double start = now();
+    for (int round = 0; round < FEWEST_ROUNDS || (round < MOST_ROUNDS && now() - start < TIME_FOR_ONE_CASE); round++)
+        for (int l = 0; l < count; l++) {
+            double each = time_round(c, timed[l], passes[l]) / ((double)passes[l] * (double)c->inputs);
+            if (each < nanoseconds[l])
+                nanoseconds[l] = each;
+        }
+}
+
+static void print_nanoseconds(double x) { printf(x < 99.95 ? " %.1f |" : " %.0f |", x); }
+
+static void print_compared(double archive, double other)
+{
+    double ratio = archive / other;
+    print_nanoseconds(other);
+    printf(ratio < 99.5 ? " %.2f |" : " %.0f |", ratio);
+}
+
+static void print_case(const struct timing_case *c, const double nanoseconds[])
+{
+    printf("| %s%s%s |", c->function, c->over[0] != '\0' ? ", " : "", c->over);
+    if (c->buckets > 0)
+        printf(" %zu |", c->buckets);
+    else
+        printf(" |");
+    print_nanoseconds(nanoseconds[ARCHIVE]);
+    print_compared(nanoseconds[ARCHIVE], nanoseconds[PLAIN]);
+    if (c->named)
+        print_compared(nanoseconds[ARCHIVE], nanoseconds[NAMED]);
+    else
+        printf(" | |");
+    printf("\n");
+    fflush(stdout);
+}
+
+static bool print_times(void)
+{
+    printf("| function | buckets | archive, ns | best plain C, ns | archive / plain | named form in C, ns | archive / named |\n");
+    printf("|---|---:|---:|---:|---:|---:|---:|\n");
+    for (size_t k = 0; k < CASES; k++) {
+        double nanoseconds[LIBRARIES];
+        make_inputs(&cases[k]);
+        if (!all_agree(&cases[k]))
+            return false;
+        time_case(&cases[k], libraries, cases[k].named ? LIBRARIES : NAMED, nanoseconds);
+        print_case(&cases[k], nanoseconds);
+    }
+    return true;
+}
+
+/* What a call costs that does nothing: it is in every time. */
+static void print_idle_time(void)
+{
+    const struct library *const idle[] = { &idle_library };
+    const struct timing_case *c = &cases[0];
+    double nanoseconds[1];
+    make_inputs(c);
+    time_case(c, idle, 1, nanoseconds);
+    printf("\nA call that does nothing takes %.1f ns here, which is in every time above.\n", nanoseconds[0]);
+}
+
+/*
+ * Stack. It is what a function takes beyond a call that does nothing, the most over all its cases.
+ */
+
+struct one_call {
+    const struct timing_case *of;
+    const struct library *library;
+    const struct input *input;
+};
+
+static void call_once(const void *what)
+{
+    const struct one_call *call = what;
+    call->of->ask(call->library, call->input, &scratch);
+}
+
+static size_t stack_of(const struct timing_case *c, const struct library *library)
+{
+    size_t most = 0;
+    for (size_t i = 0; i < c->inputs; i++) {
+        struct one_call call = { c, library, &inputs[i] }, idle = { c, &idle_library, &inputs[i] };
+        size_t touched = stack_touched(call_once, &call), by_itself = stack_touched(call_once, &idle);
+        if (touched > by_itself && touched - by_itself > most)
+            most = touched - by_itself;
+    }
+    return most;
+}
+
+static void print_stacks(void)
+{
+    printf("\n| function | archive, bytes of stack | best plain C | named form in C |\n|---|---:|---:|---:|\n");
+    for (size_t k = 0; k < CASES;) {
+        size_t most[LIBRARIES] = { 0 };
+        const struct timing_case *first = &cases[k];
+        for (; k < CASES && strcmp(cases[k].function, first->function) == 0; k++) {
+            make_inputs(&cases[k]);
+            for (int l = 0; l < LIBRARIES; l++) {
+                size_t bytes = answers(l, &cases[k]) ? stack_of(&cases[k], libraries[l]) : 0;
+                most[l] = bytes > most[l] ? bytes : most[l];
+            }
+        }
+        printf("| %s | %zu | %zu |", first->function, most[ARCHIVE], most[PLAIN]);
+        if (first->named)
+            printf(" %zu |\n", most[NAMED]);
+        else
+            printf(" |\n");
+    }
 }
 
 int main(void)
 {
-    /* Buckets k and k+1 of each curve cross at time k+1, so a sum of two of them has 64 buckets. */
-    for (uint64_t k = 0; k < BUCKETS; k++) {
-        stairs[2 * k] = BUCKETS - 1 - k;
-        stairs[2 * k + 1] = k * (k + 1) / 2;
-        turned[NUMBERS - 2 - 2 * k] = stairs[2 * k];
-        turned[NUMBERS - 1 - 2 * k] = stairs[2 * k + 1];
-        wide[2 * k] = BUCKETS * stairs[2 * k];
-        wide[2 * k + 1] = BUCKETS * stairs[2 * k + 1];
-    }
-    return timed("normalise 64 raw buckets, all useful", normalise, 2000)
-         | timed("value of 64 buckets", value, 200000)
-         | timed("sum of 64 and 64 buckets, 4096 pairs of 127 rates", sum_same, 50)
-         | timed("sum of 64 and 64 buckets, 4096 pairs of 4096 rates", sum_wide, 5);
+    if (!print_times())
+        return 1;
+    print_idle_time();
+    print_stacks();
+    return 0;
 }

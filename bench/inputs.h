@@ -1,0 +1,33 @@
+/* Inputs for the benchmark: curves of a given count of buckets, all useful, with servers, ticks and files that go with them.
+ * Each is drawn from a seed, so that every run asks the same. */
+#ifndef INPUTS_H
+#define INPUTS_H
+
+#include "plain.h"
+
+struct input {
+    uint64_t f[DUCHRELIN_CURVE_NUMBERS], g[DUCHRELIN_CURVE_NUMBERS];
+    size_t f_numbers, g_numbers;
+    uint64_t tick, link_rate, rate, latency, next_rate, next_latency;
+    uint8_t bytes[DUCHRELIN_INPUT_BYTES];
+    size_t byte_count;
+};
+
+/* How an input of so many buckets is made from a seed. */
+typedef void maker(struct input *input, size_t buckets, uint64_t seed);
+
+maker make_one_curve;         /* a curve, and a tick and a link rate that fall among its crossings and rates */
+maker make_shuffled;          /* the same, its buckets in any order */
+maker make_mostly_useless;    /* raw buckets of which few are useful */
+maker make_two_curves;        /* two curves that cross, the lower of which has at most 64 buckets */
+maker make_summands;          /* two curves, their sum of at most 64 buckets; the pairs' rates all differ, or almost */
+maker make_stairs;            /* two curves of steps of one size, so that few of the pairs' rates differ */
+maker make_curve_and_server;  /* a server that cuts the curve at some bucket */
+maker make_servers;           /* two servers */
+maker make_cross_and_server;  /* a server that has some service left beside the curve */
+maker make_curve_file;
+maker make_server_file;
+maker make_route_of_full_curves; /* 32 servers that leave every bucket of the curve */
+maker make_route_of_cuts;        /* 32 servers of falling rates, so that each cuts the curve */
+
+#endif

@@ -1,0 +1,304 @@
+#include "named.h"
+
+#include "profile.h"
+
+struct bucket {
+    uint64_t rate, burst;
+};
+
+/* The times at which a candidate lies below the buckets seen so far: after low/low_over and before high/high_over, where a
+ * high_over of 0 is no end. */
+struct ends {
+    uint64_t low, low_over, high, high_over;
+};
+
+/* Past the ends of every rate and burst that is asked about: two curves added, or a curve moved by a latency. */
+#define RAW_RATE_END (2 * RATE_END)
+
+enum { MOST_PAIRS = MOST_BUCKETS * MOST_BUCKETS };
+
+static uint64_t difference(uint64_t a, uint64_t b) { return a > b ? a - b : 0; }
+
+/* A steeper bucket is above the candidate only past their crossing. */
+static void after_steeper(struct bucket candidate, struct bucket other, struct ends *ends)
+{
+    uint64_t rise = difference(candidate.burst, other.burst);
+    uint64_t fall = other.rate - candidate.rate;
+    if (ends->low * fall < rise * ends->low_over) {
+        ends->low = rise;
+        ends->low_over = fall;
+    }
+}
+
+/* A flatter bucket is above the candidate only up to their crossing. */
+static void before_flatter(struct bucket candidate, struct bucket other, struct ends *ends)
+{
+    uint64_t rise = difference(other.burst, candidate.burst);
+    uint64_t fall = candidate.rate - other.rate;
+    if (rise * ends->high_over < ends->high * fall) {
+        ends->high = rise;
+        ends->high_over = fall;
+    }
+}
+
+/* A bucket of the same rate is above the candidate always, or never. */
+static void beside_equal(struct bucket candidate, struct bucket other, struct ends *ends)
+{
+    if (other.burst < candidate.burst) {
+        ends->high = 0;
+        ends->high_over = 1;
+    }
+}
+
+static void narrow(struct bucket candidate, struct bucket other, struct ends *ends)
+{
+    if (other.rate > candidate.rate)
+        after_steeper(candidate, other, ends);
+    else if (other.rate < candidate.rate)
+        before_flatter(candidate, other, ends);
+    else
+        beside_equal(candidate, other, ends);
+}
+
+static bool some_time_left(const struct ends *ends) { return ends->low * ends->high_over < ends->high * ends->low_over; }
+
+static struct bucket bucket_of(const uint64_t *list, size_t i) { return (struct bucket){ list[2 * i], list[2 * i + 1] }; }
+
+/* A bucket that is looked for, if there is one. */
+struct found {
+    bool some;
+    struct bucket bucket;
+};
+
+static bool comes_before(struct bucket a, struct bucket b) { return a.rate > b.rate || (a.rate == b.rate && a.burst < b.burst); }
+
+/* The bucket of greatest rate below the bound, and of smallest burst among those of its rate. */
+static struct found steepest_below(const uint64_t *raw, size_t count, uint64_t bound)
+{
+    struct found best = { .some = false, .bucket = { 0, 0 } };
+    for (size_t i = 0; i < count; i++) {
+        struct bucket next = bucket_of(raw, i);
+        if (next.rate < bound && (!best.some || comes_before(next, best.bucket)))
+            best = (struct found){ .some = true, .bucket = next };
+    }
+    return best;
+}
+
+/* The useful buckets by falling rates, and how many there are; past 64 the search is given up, one more being told. */
+static size_t choose(const uint64_t *raw, size_t count, uint64_t chosen[CURVE_NUMBERS])
+{
+    size_t useful = 0;
+    uint64_t bound = RAW_RATE_END;
+next_candidate:
+    for (;;) {
+        struct found found = steepest_below(raw, count, bound);
+        if (!found.some)
+            return useful;
+        struct bucket candidate = found.bucket;
+        bound = candidate.rate;
+        struct ends ends = { .low = 0, .low_over = 1, .high = 1, .high_over = 0 };
+        for (size_t j = 0; j < count; j++) {
+            narrow(candidate, bucket_of(raw, j), &ends);
+            if (!some_time_left(&ends))
+                goto next_candidate;
+        }
+        if (useful == MOST_BUCKETS)
+            return MOST_BUCKETS + 1;
+        chosen[2 * useful] = candidate.rate;
+        chosen[2 * useful + 1] = candidate.burst;
+        useful++;
+    }
+}
+
+/* The normal form of raw buckets, handed over. */
+static duchrelin_answer settle(const uint64_t *raw, size_t count, uint64_t *out, size_t out_numbers)
+{
+    uint64_t chosen[CURVE_NUMBERS];
+    size_t useful = choose(raw, count, chosen);
+    if (useful <= MOST_BUCKETS && raw_refusal(chosen, 2 * useful) != 0)
+        return refused_answer(DUCHRELIN_LARGE);
+    return placed(chosen, useful, out, out_numbers);
+}
+
+static duchrelin_answer settle_both(const uint64_t *f, size_t f_numbers, const uint64_t *g, size_t g_numbers,
+                                    uint64_t *out, size_t out_numbers)
+{
+    uint64_t both[2 * CURVE_NUMBERS];
+    memcpy(both, f, f_numbers * sizeof *both);
+    memcpy(both + f_numbers, g, g_numbers * sizeof *both);
+    return settle(both, (f_numbers + g_numbers) / 2, out, out_numbers);
+}
+
+duchrelin_answer named_normalise(const uint64_t *raw, size_t raw_numbers, uint64_t *out, size_t out_numbers)
+{
+    uint64_t code = raw_refusal(raw, raw_numbers);
+    if (code != 0)
+        return refused_answer(code);
+    return settle(raw, raw_numbers / 2, out, out_numbers);
+}
+
+duchrelin_answer named_lower(const uint64_t *f, size_t f_numbers, const uint64_t *g, size_t g_numbers,
+                             uint64_t *out, size_t out_numbers)
+{
+    uint64_t code = curves_refusal(f, f_numbers, g, g_numbers);
+    if (code != 0)
+        return refused_answer(code);
+    return settle_both(f, f_numbers, g, g_numbers, out, out_numbers);
+}
+
+duchrelin_answer named_sum(const uint64_t *f, size_t f_numbers, const uint64_t *g, size_t g_numbers,
+                           uint64_t *out, size_t out_numbers)
+{
+    uint64_t code = curves_refusal(f, f_numbers, g, g_numbers);
+    if (code != 0)
+        return refused_answer(code);
+    uint64_t raw[2 * MOST_PAIRS];
+    size_t count = 0;
+    for (size_t i = 0; i < f_numbers; i += 2)
+        for (size_t j = 0; j < g_numbers; j += 2, count++) {
+            raw[2 * count] = f[i] + g[j];
+            raw[2 * count + 1] = f[i + 1] + g[j + 1];
+        }
+    return settle(raw, count, out, out_numbers);
+}
+
+duchrelin_answer named_shape(const uint64_t *curve, size_t curve_numbers, uint64_t link_rate, uint64_t *out, size_t out_numbers)
+{
+    uint64_t code = smaller_code(curve_refusal(curve, curve_numbers), link_refusal(link_rate));
+    if (code != 0)
+        return refused_answer(code);
+    uint64_t link[2] = { link_rate, 0 };
+    return settle_both(curve, curve_numbers, link, 2, out, out_numbers);
+}
+
+static uint64_t least_at(const uint64_t *curve, size_t count, uint64_t tick)
+{
+    uint64_t least = UINT64_MAX;
+    for (size_t i = 0; i < count; i++) {
+        uint64_t value = rate_of(curve, i) * tick + burst_of(curve, i);
+        least = value < least ? value : least;
+    }
+    return least;
+}
+
+/* The most by which the curve is ahead of a rate that it comes within in the end: at tick 0, or at one of the two ticks around the
+ * crossing where it does. */
+static uint64_t excess(const uint64_t *curve, size_t count, uint64_t rate)
+{
+    size_t k = 0;
+    while (rate_of(curve, k) > rate)
+        k++;
+    if (k == 0)
+        return burst_of(curve, 0);
+    uint64_t tick = rise_after(curve, k - 1) / fall_after(curve, k - 1);
+    uint64_t before = difference(least_at(curve, count, tick), rate * tick);
+    uint64_t after = difference(least_at(curve, count, tick + 1), rate * (tick + 1));
+    return before > after ? before : after;
+}
+
+/* The curve behind a server; the refusals of the operands are known not to hold. */
+static duchrelin_answer settle_behind(const uint64_t *curve, size_t curve_numbers, uint64_t rate, uint64_t latency,
+                                      uint64_t *out, size_t out_numbers)
+{
+    uint64_t raw[CURVE_NUMBERS + 2];
+    size_t count = 0;
+    for (size_t i = 0; i < curve_numbers; i += 2)
+        if (curve[i] <= rate) {
+            raw[2 * count] = curve[i];
+            raw[2 * count + 1] = curve[i + 1] + curve[i] * latency;
+            count++;
+        }
+    raw[2 * count] = rate;
+    raw[2 * count + 1] = rate * latency + excess(curve, curve_numbers / 2, rate);
+    return settle(raw, count + 1, out, out_numbers);
+}
+
+duchrelin_answer named_behind(const uint64_t *curve, size_t curve_numbers, uint64_t rate, uint64_t latency,
+                              uint64_t *out, size_t out_numbers)
+{
+    uint64_t code = port_refusal(curve, curve_numbers, rate, latency);
+    if (code != 0)
+        return refused_answer(code);
+    return settle_behind(curve, curve_numbers, rate, latency, out, out_numbers);
+}
+
+static uint64_t delay_of(const uint64_t *curve, size_t count, uint64_t rate, uint64_t latency)
+{
+    if (least_at(curve, count, 1) == 0)
+        return 0;
+    return latency + quotient_rounded_up(excess(curve, count, rate), rate);
+}
+
+/* The curve of the hop at hand, and the servers up to it joined. */
+struct journey {
+    uint64_t curve[CURVE_NUMBERS];
+    size_t numbers;
+    size_t hops;
+    uint64_t joined_rate, joined_latency;
+};
+
+/* Takes the next server: its refusal, or 0, its line of text, and the curve behind it. */
+static uint64_t travel(struct journey *journey, const uint8_t *input, size_t bytes, struct text *text)
+{
+    if (journey->hops == DUCHRELIN_MOST_SERVERS)
+        return DUCHRELIN_COUNT;
+    uint64_t code = due_refusal(input, bytes, DUCHRELIN_KIND_SERVER);
+    if (code != 0)
+        return code;
+    uint64_t rate, latency, behind[CURVE_NUMBERS];
+    take_server(input, &rate, &latency);
+    code = port_refusal(journey->curve, journey->numbers, rate, latency);
+    if (code != 0)
+        return code;
+    duchrelin_answer answer = settle_behind(journey->curve, journey->numbers, rate, latency, behind, CURVE_NUMBERS);
+    code = smaller_code(answer.code, join_refusal(journey->joined_latency, latency));
+    if (code != 0)
+        return code;
+    journey->hops++;
+    put_hop(text, journey->hops, burst_of(behind, 0), delay_of(journey->curve, journey->numbers / 2, rate, latency));
+    journey->numbers = 2 * answer.count;
+    memcpy(journey->curve, behind, journey->numbers * sizeof *behind);
+    journey->joined_rate = smaller(journey->joined_rate, rate);
+    journey->joined_latency += latency;
+    return 0;
+}
+
+static void put_whole_route(struct text *text, const uint64_t *first, size_t count, const struct journey *journey)
+{
+    uint64_t behind[CURVE_NUMBERS];
+    settle_behind(first, 2 * count, journey->joined_rate, journey->joined_latency, behind, CURVE_NUMBERS);
+    put_route(text, burst_of(behind, 0), delay_of(first, count, journey->joined_rate, journey->joined_latency));
+}
+
+static void report(struct text *text, const uint8_t *input, size_t bytes)
+{
+    uint64_t first[CURVE_NUMBERS];
+    size_t count = 0;
+    uint64_t code = due_refusal(input, bytes, DUCHRELIN_KIND_CURVE);
+    if (code == 0)
+        code = take_curve(input, first, &count);
+    if (code != 0) {
+        put_refusal(text, code, 1);
+        return;
+    }
+    struct journey journey = { .numbers = 2 * count, .hops = 0, .joined_rate = RATE_END, .joined_latency = 0 };
+    memcpy(journey.curve, first, journey.numbers * sizeof *first);
+    size_t at = curve_bytes(count);
+    do {
+        code = travel(&journey, input + at, bytes - at, text);
+        if (code != 0) {
+            put_refusal(text, code, journey.hops + 2);
+            return;
+        }
+        at += SERVER_BYTES;
+    } while (at < bytes);
+    put_whole_route(text, first, count, &journey);
+}
+
+duchrelin_written named_route(const uint8_t *input, size_t input_bytes, uint8_t *text, size_t text_bytes)
+{
+    struct text local;
+    local.count = 0;
+    report(&local, input, input_bytes);
+    return handed_over(&local, text, text_bytes);
+}
