@@ -5,3 +5,4 @@ pub mod Files
 pub mod RoundTrip
 pub mod Outcomes
 pub mod Decided
+pub mod Again

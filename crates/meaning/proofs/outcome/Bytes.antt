@@ -114,10 +114,10 @@ bytes-code (BytesOutcome.filled v) = accepted (v .clear) (v .code-is)
 
 -- What wins among the operands' lines is the code: ROOM comes after them all.
 pub bytes-wins :
-    {ask : BytesQuestion} {before after : List ℕ} {code count : ℕ} {r : Refusal} → Wins (ask .operands) r
-    → number r ≤ 10 → BytesOutcome ask before after code count → code ≡ number r
+    {ask : BytesQuestion} {before after : List ℕ} {code count : ℕ} {r : Refusal} → BytesOutcome ask before after code count
+    → number r ≤ 10 → Wins (ask .operands) r → code ≡ number r
 unfolding number
-bytes-wins w last o =
+bytes-wins o last w =
     wins-code (record { holds = inl (w .holds); smallest = from-or (w .smallest) (from-when ROOM last) }) (bytes-code o)
 
 -- A refusal leaves the lent buffer, and its count is 0.

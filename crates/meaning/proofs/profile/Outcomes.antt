@@ -9,7 +9,7 @@ use native.Mathlib.Decide.{ℕ-discrete}
 use native.Mathlib.Omega.{arith}
 use lib.Dec.{lit≤}
 use lib.ListN.{length}
-use Rattle.meaning.specs.Curve.{listOf}
+use Rattle.meaning.specs.Curve.{flat, listOf}
 use Rattle.meaning.specs.Server.{Server, noServer}
 use Rattle.meaning.specs.Refusal.{HEADER, LENGTH, PAD, RANGE, FORM, number, Lines, Clear, Verdict, TooLarge, over, part}
 use Rattle.meaning.specs.Profile.{Profile, curve, server, kindOf, profileOf, profileLines, fileLines, bucketsOf, serverIn, reading, Reading, Told, ReadOutcome, ReadPartOutcome, writing, WriteCurveOutcome, WriteServerOutcome}
@@ -161,6 +161,13 @@ pub record OnlyRead (file : List ℕ) (p : Profile) : Type 0 where
   pub without-room :
       {before after : List ℕ} {x : Reading} → length before < length (listOf (bucketsOf p)) → ReadOutcome file before after x
       → SameReading x (refusedAs 10) after before
+
+-- a server is read into any list, and the list stays
+pub only-server :
+    {file before after : List ℕ} {x : Reading} {s : Server} → OnlyRead file (server s) → ReadOutcome file before after x
+    → SameReading x (readAs (server s)) after before
+unfolding listOf flat over
+only-server known o = known .with-room (omega arith) o
 
 -- a file of which no line holds has these
 pub only-read : (file : List ℕ) → Clear (fileLines file) → OnlyRead file (profileOf file)
