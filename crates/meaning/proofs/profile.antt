@@ -6,3 +6,6 @@ pub mod RoundTrip
 pub mod Outcomes
 pub mod Decided
 pub mod Again
+pub mod Refusals
+pub mod Known
+pub mod Slips

@@ -157,7 +157,7 @@ unfolding number
 answer-from Answer h = from-or (from-when LARGE h) (from-when ROOM (omega arith))
 
 -- a list that is empty or uneven is LIST, which nothing goes before
-list-wins : (l : List ℕ) → Uneven width l → Wins (curveLines l) LIST
+pub list-wins : (l : List ℕ) → Uneven width l → Wins (curveLines l) LIST
 unfolding number
 list-wins l h = record { holds = inl (inl (inl (refl, h))); smallest = curve-from l }
 

@@ -3,8 +3,8 @@
 -- 482 bytes and 128 numbers are room for every profile.
 -- Assumes nothing.
 use mathlib.Core.Path.{_≡_, refl, sym, _∙_, ap, subst}
-use mathlib.Core.Logic.{inl, inr, _≢_}
-use mathlib.Core.List.{List, []}
+use mathlib.Core.Logic.{inr, _≢_}
+use mathlib.Core.List.{List}
 use Prim.Native.Nat.{ℕ, _*_, _≤_, _<_}
 use native.Mathlib.Omega.{arith}
 use lib.ListN.{length, take}
@@ -23,7 +23,7 @@ use Rattle.meaning.proofs.outcome.EveryInput.{Decided, curve-decided, s
 use Rattle.meaning.proofs.profile.Bits.{Bytes}
 use Rattle.meaning.proofs.profile.Files.{curve-bytes, server-bytes, held-few, read-in-range}
 use Rattle.meaning.proofs.profile.RoundTrip.{ReadsBack, read-back-curve, read-back-server, write-back}
-use Rattle.meaning.proofs.profile.Outcomes.{single-writing, SameReading, file-up-to, readAs, refusedAs, OnlyRead, only-server, only-read, only-refused, Read, read-file}
+use Rattle.meaning.proofs.profile.Outcomes.{writingCurve, writingServer, single-writing, SameReading, file-up-to, readAs, refusedAs, OnlyRead, only-server, only-read, only-refused, Read, read-file}
 use Rattle.meaning.proofs.profile.Decided.{file-decided}
 
 -- ---- What is written.
@@ -35,15 +35,15 @@ only-written operands p clear = only-bytes (single-writing operands p) clear ref
 
 -- a curve that no line refuses,
 pub curve-written :
-    (l : List ℕ) → Clear (curveLines l) → OnlyBytes (writing (curveLines l) (curve (curveOf l))) (written edition (curve (curveOf l)))
+    (l : List ℕ) → Clear (curveLines l) → OnlyBytes (writingCurve l) (written edition (curve (curveOf l)))
 curve-written l clear = only-written (curveLines l) (curve (curveOf l)) clear
 
 -- and a server that none refuses
-pub server-written : (s : Server) → Clear (serverLines s) → OnlyBytes (writing (serverLines s) (server s)) (written edition (server s))
+pub server-written : (s : Server) → Clear (serverLines s) → OnlyBytes (writingServer s) (written edition (server s))
 server-written s clear = only-written (serverLines s) (server s) clear
 
 -- what is written reads as the profile
-read-written : {p : Profile} → ReadsBack p → OnlyRead (written edition p) p
+pub read-written : {p : Profile} → ReadsBack p → OnlyRead (written edition p) p
 read-written {p} back = subst (OnlyRead (written edition p)) (back .same) (only-read (written edition p) (back .clear))
 
 curve-back : (l : List ℕ) → Clear (curveLines l) → ReadsBack (curve (curveOf l))
@@ -190,10 +190,10 @@ module _
       form = normal-stable (λ out. known .clear FORM (inr (rw holds-curve (inr (refl, out)))))
 
       only-file :
-          OnlyBytes (writing (curveLines (readBack read (x .count))) (curve (curveOf (readBack read (x .count))))) file
+          OnlyBytes (writingCurve (readBack read (x .count))) file
       only-file =
           rw read-list
-          (subst (OnlyBytes (writing (curveLines (listOf f)) (curve (curveOf (listOf f)))))
+          (subst (OnlyBytes (writingCurve (listOf f)))
           (ap (λ (g : List Bucket). written edition (curve g)) (curve-list f) ∙ same-file holds-curve)
           (curve-written (listOf f) (sound-clear f form (read-in-range file) (held-few file))))
         where
@@ -218,9 +218,9 @@ module _
       holds-server =
           is-server (profileOf file) (sym (known .told .kind-same) ∙ kind) ∙ ap server (sym (known .told .server-same))
 
-      only-server-file : OnlyBytes (writing (serverLines (x .server)) (server (x .server))) file
+      only-server-file : OnlyBytes (writingServer (x .server)) file
       only-server-file =
-          subst (OnlyBytes (writing (serverLines (x .server)) (server (x .server)))) (same-file holds-server)
+          subst (OnlyBytes (writingServer (x .server))) (same-file holds-server)
           (server-written (x .server) (λ r h. known .clear r (inr (rw holds-server h))))
 
       -- is, given room,
@@ -254,7 +254,7 @@ room-for-file {file} {before} {after} {x} room o e = by (file-decided file)
         )
     by (code, rejected r w is) =
         not-room (file-up-to file) w
-        (sym is ∙ sym (only-refused (omega (arith, is, number-positive r)) (rejected r w is) o .code-same) ∙ e)
+        (sym is ∙ sym (only-refused (omega (arith, is, number-positive r)) (rejected r w is) .whatever-list o .code-same) ∙ e)
 
 -- Nor is ROOM the code of writing where the buffer has room for all that no line refuses:
 room-for :

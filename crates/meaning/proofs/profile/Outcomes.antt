@@ -9,9 +9,10 @@ use native.Mathlib.Decide.{ℕ-discrete}
 use native.Mathlib.Omega.{arith}
 use lib.Dec.{lit≤}
 use lib.ListN.{length}
-use Rattle.meaning.specs.Curve.{flat, listOf}
+use Rattle.meaning.specs.Curve.{flat, curveOf, listOf}
 use Rattle.meaning.specs.Server.{Server, noServer}
-use Rattle.meaning.specs.Refusal.{HEADER, LENGTH, PAD, RANGE, FORM, number, Lines, Clear, Verdict, TooLarge, over, part}
+use Rattle.meaning.specs.Refusal.{HEADER, LENGTH, PAD, RANGE, FORM, number, Lines, Clear, Verdict, TooLarge, curveLines, over, part, BytesQuestion}
+use Rattle.meaning.specs.ServerQuestions.{serverLines}
 use Rattle.meaning.specs.Profile.{Profile, curve, server, kindOf, profileOf, profileLines, fileLines, bucketsOf, serverIn, reading, Reading, Told, ReadOutcome, ReadPartOutcome, writing, WriteCurveOutcome, WriteServerOutcome}
 use Rattle.meaning.proofs.Order.{le-or-lt}
 use Rattle.meaning.proofs.outcome.Outcomes.{Same, Single, one-outcome, one-part-outcome, UpTo, up-to-when, up-to-or, refuse, no-room, written-out}
@@ -20,6 +21,14 @@ use Rattle.meaning.proofs.outcome.Slips.{refusal-keeps, refusal-keeps-t
 use Rattle.meaning.proofs.outcome.Demands.{server-up-to}
 use Rattle.meaning.proofs.outcome.Bytes.{one-bytes}
 use Rattle.meaning.proofs.profile.Files.{held-few, read-in-range}
+
+-- Writing a curve,
+abbrev pub writingCurve : List ℕ → BytesQuestion
+writingCurve l = writing (curveLines l) (curve (curveOf l))
+
+-- and writing a server.
+abbrev pub writingServer : Server → BytesQuestion
+writingServer s = writing (serverLines s) (server s)
 
 -- ---- One outcome.
 
@@ -177,11 +186,14 @@ only-read file clear =
       without-room = λ {before} short o. one-read o (read-short file before clear short);
     }
 
--- a file of which one holds has its number, whatever list is lent
-pub only-refused :
-    {file before after : List ℕ} {x : Reading} {code : ℕ} → 1 ≤ code → Verdict (fileLines file) code → ReadOutcome file before after x
-    → SameReading x (refusedAs code) after before
-only-refused {file} {before} some v o = one-read o (read-refused file before some v)
+-- The only outcome of reading a file: refused with this number, whatever list is lent, which stays.
+pub record OnlyRefused (file : List ℕ) (code : ℕ) : Type 0 where
+  pub whatever-list :
+      {before after : List ℕ} {x : Reading} → ReadOutcome file before after x → SameReading x (refusedAs code) after before
+
+-- a file of which a line holds has it
+pub only-refused : {file : List ℕ} {code : ℕ} → 1 ≤ code → Verdict (fileLines file) code → OnlyRefused file code
+only-refused {file} some v = record { whatever-list = λ {before} o. one-read o (read-refused file before some v) }
 
 -- ---- What a reading says.
 
