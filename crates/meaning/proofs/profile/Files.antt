@@ -173,6 +173,20 @@ module _ (file : List ℕ) where
   unfolding profileOf
   held-server e = rw (ne-eqb (kindIn file) curveKind e)
 
+  -- a curve takes the bytes that its count requires,
+  pub curve-taken : kindIn file ≡ curveKind → bytesTaken file ≡ (60 * (field file 8 6 + 1) + 21) / 8
+  unfolding bytesTaken byteCount
+  curve-taken e =
+      let n = field file 8 6 + 1 in
+      rw (held-curve e) (omega (arith, curve-bits (editionOf file) (bucketsIn file 14 n), length-buckets-in file 14 n))
+
+  -- and a server six
+  pub server-taken : kindIn file ≢ curveKind → bytesTaken file ≡ 6
+  unfolding bytesTaken byteCount
+  server-taken e =
+      let s : Server = record { rate = field file 8 20; latency = field file 28 20 } in
+      rw (held-server e) (omega (arith, server-bits (editionOf file) s))
+
   -- a file holds at most 64 buckets,
   pub held-few : length (bucketsOf (profileOf file)) ≤ 64
   held-few =
@@ -241,21 +255,16 @@ module _ (file rest : List ℕ) (whole : bytesTaken file ≤ length file) where
   kind-append = field-append file rest 4 4 (omega (arith, long-enough))
 
   append-curve : kindIn file ≡ curveKind → profileOf (file ++ rest) ≡ profileOf file
-  unfolding bytesTaken byteCount
   append-curve e =
-      let n = field file 8 6 + 1 in
-      let bits : length (profileBits (editionOf file) (profileOf file)) ≡ 14 + 60 * length (bucketsIn file 14 n)
-      = rw (held-curve file e) (curve-bits (editionOf file) _) in
-      let inside : 14 + 60 * n ≤ 8 * length file = omega (arith, length-buckets-in file 14 n) in
+      let inside : 14 + 60 * (field file 8 6 + 1) ≤ 8 * length file = omega (arith, curve-taken file e) in
       held-curve (file ++ rest) (kind-append ∙ e)
       ∙ ap (λ (m : ℕ). curve (bucketsIn (file ++ rest) 14 (m + 1))) (field-append file rest 8 6 (omega arith))
-      ∙ ap curve (buckets-append file rest 14 n inside)
+      ∙ ap curve (buckets-append file rest 14 (field file 8 6 + 1) inside)
       ∙ sym (held-curve file e)
 
   append-server : kindIn file ≢ curveKind → profileOf (file ++ rest) ≡ profileOf file
-  unfolding bytesTaken byteCount
   append-server e =
-      let bits : length (profileBits (editionOf file) (profileOf file)) ≡ 48 = rw (held-server file e) (server-bits (editionOf file) _) in
+      let inside : 6 ≤ length file = omega (arith, server-taken file e) in
       held-server (file ++ rest) (λ k. e (sym kind-append ∙ k))
       ∙ ap server (same-server (field-append file rest 8 20 (omega arith)) (field-append file rest 28 20 (omega arith)))
       ∙ sym (held-server file e)

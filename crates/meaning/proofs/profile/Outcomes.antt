@@ -171,6 +171,16 @@ pub record OnlyRead (file : List ℕ) (p : Profile) : Type 0 where
       {before after : List ℕ} {x : Reading} → length before < length (listOf (bucketsOf p)) → ReadOutcome file before after x
       → SameReading x (refusedAs 10) after before
 
+-- what is read is this profile, whatever the room
+pub only-reading :
+    {file before after : List ℕ} {x : Reading} {p : Profile} → OnlyRead file p → ReadOutcome file before after x → x .code ≡ 0
+    → SameReading x (readAs p) after (over (listOf (bucketsOf p)) before)
+only-reading {before = before} {p = p} known o none =
+    elim (le-or-lt (length (listOf (bucketsOf p))) (length before)) [
+      | inl room ↦ known .with-room room o
+      | inr short ↦ absurd (omega (arith, known .without-room short o .code-same))
+    ]
+
 -- a server is read into any list, and the list stays
 pub only-server :
     {file before after : List ℕ} {x : Reading} {s : Server} → OnlyRead file (server s) → ReadOutcome file before after x
@@ -221,20 +231,14 @@ refusal-keeps-read-part o some =
     let told = o .told .refused some in
     record { code-same = refl; kind-same = told .0; count-same = kept .1; server-same = told .1; after-same = kept .0 }
 
--- A file that is read: no line holds of it, the list has room, and what the reader tells and writes is the profile's.
+-- A file that is read: no line holds of it, and what the reader tells and writes is the profile's.
 pub record Read (file before after : List ℕ) (x : Reading) : Type 0 where
   pub clear : Clear (fileLines file)
-  pub room : length (listOf (bucketsOf (profileOf file))) ≤ length before
   pub told : SameReading x (readAs (profileOf file)) after (over (listOf (bucketsOf (profileOf file))) before)
 
 -- code 0 is such
 pub read-file : {file before after : List ℕ} {x : Reading} → ReadOutcome file before after x → x .code ≡ 0 → Read file before after x
 unfolding reading
-read-file {file} {before} {after} {x} o none =
-    elim (le-or-lt (length (listOf (bucketsOf (profileOf file)))) (length before)) [
-      | inl room ↦ record { clear = clear; room = room; told = only-read file clear .with-room room o }
-      | inr short ↦ absurd (omega (arith, only-read file clear .without-room short o .code-same))
-    ]
-  where
-    clear : Clear (fileLines file)
-    clear r h = code-zero (outcome-code (o .list)) .0 none r (inl h)
+read-file {file} o none =
+    let clear : Clear (fileLines file) = λ r h. code-zero (outcome-code (o .list)) .0 none r (inl h) in
+    record { clear = clear; told = only-reading (only-read file clear) o none }

@@ -1,25 +1,29 @@
 -- Which refusal is the code: of a file by its header, its length, its padding and the profile that it holds, one after the other;
 -- and of a curve or a server that is written.
 -- Assumes nothing.
-use mathlib.Core.Path.{_≡_, refl}
+use mathlib.Core.Path.{_≡_, refl, sym, _∙_}
 use mathlib.Core.Logic.{_⊎_, inl, inr, _≢_}
-use mathlib.Core.List.{List, List·Memᴰ}
-use Prim.Native.Nat.{ℕ, _%_, _≤_, _<_}
+use mathlib.Core.List.{List, _++_, List·Memᴰ}
+use Prim.Native.Nat.{ℕ, _+_, _%_, _≤_, _<_}
+use native.Mathlib.Decide.{ℕ-discrete}
 use native.Mathlib.Omega.{arith}
 use lib.Dec.{lit≤}
-use lib.ListN.{length}
+use lib.ListN.{length, length-append}
 use Rattle.meaning.specs.Curve.{width, curveOf, NormalForm}
-use Rattle.meaning.specs.Refusal.{HEADER, LENGTH, PAD, LIST, COUNT, RANGE, FORM, number, Verdict, accepted, rejected, AllInRange, Uneven, curveLines}
+use Rattle.meaning.specs.Refusal.{HEADER, LENGTH, PAD, LIST, COUNT, RANGE, FORM, number, Clear, Verdict, accepted, rejected, AllInRange, Uneven, curveLines}
 use Rattle.meaning.specs.Server.{Server}
 use Rattle.meaning.specs.ServerQuestions.{ServerInRange}
 use Rattle.meaning.specs.Profile.{edition, curveKind, serverKind, Profile, curve, server, editionOf, kindIn, profileOf, bytesTaken, padding, profileLines, fileLines, writing}
+use Rattle.meaning.proofs.Order.{le-or-lt}
 use Rattle.meaning.proofs.Lists.{curve-use}
 use Rattle.meaning.proofs.outcome.Outcomes.{number-positive, From, from-when, from-or, up-to-when, up-to-or, line-hit, line-miss, refused-first, refused-then}
 use Rattle.meaning.proofs.outcome.Slips.{list-wins}
 use Rattle.meaning.proofs.outcome.Answers.{curve-up-to, Taken, list-clear}
 use Rattle.meaning.proofs.outcome.Demands.{server-up-to}
 use Rattle.meaning.proofs.outcome.Bytes.{OnlyRefusedBytes, only-refused-bytes}
-use Rattle.meaning.proofs.profile.Files.{more-than-one-byte}
+use Rattle.meaning.proofs.profile.Files.{curve-taken, server-taken, edition-append, kind-append, taken-append}
+use Rattle.meaning.proofs.profile.Fields.{field-append}
+use Rattle.meaning.proofs.profile.RoundTrip.{RightHeader, no-header, no-length, clear-whole, clear-header}
 use Rattle.meaning.proofs.profile.Outcomes.{writingCurve, writingServer}
 
 -- ---- A file.
@@ -33,12 +37,6 @@ unfolding number
 header-wrong file h =
     rejected HEADER (record { holds = inl (inl (inl (refl, h))); smallest = λ r _. number-positive r }) refl
 
--- A file's header is right: it is not empty, its edition is 1, and its kind 1 or 2.
-pub record RightHeader (file : List ℕ) : Type 0 where
-  pub filled : 1 ≤ length file
-  pub first : editionOf file ≡ edition
-  pub kind : (kindIn file ≡ curveKind) ⊎ (kindIn file ≡ serverKind)
-
 -- the lines of a profile come after those of its file
 profile-from : (p : Profile) → From 3 (profileLines p)
 unfolding number
@@ -46,11 +44,6 @@ profile-from (curve f) = from-or (from-when RANGE (lit≤ tt)) (from-when FORM (
 profile-from (server s) = from-when RANGE (lit≤ tt)
 
 module _ (file : List ℕ) (header : RightHeader file) where
-  no-header : (length file ≡ 0) ⊎ (editionOf file ≢ edition) ⊎ ((kindIn file ≢ curveKind) × (kindIn file ≢ serverKind)) → ⊥
-  no-header (inl e) = omega (arith, header .filled)
-  no-header (inr (inl h)) = h (header .first)
-  no-header (inr (inr h)) = elim (header .kind) [ inl e ↦ h .0 e | inr e ↦ h .1 e ]
-
   -- a byte count that is not what the header requires: 2
   pub length-wrong : length file ≢ bytesTaken file → Verdict (fileLines file) 2
   unfolding number
@@ -58,14 +51,9 @@ module _ (file : List ℕ) (header : RightHeader file) where
       refused-first {n = 3} (up-to-or (up-to-or (up-to-when HEADER (lit≤ tt)) (up-to-when LENGTH (lit≤ tt))) (up-to-when PAD (lit≤ tt)))
       (profile-from (profileOf file)) (lit≤ tt)
       (refused-first {n = 2} (up-to-or (up-to-when HEADER (lit≤ tt)) (up-to-when LENGTH (lit≤ tt))) (from-when PAD (lit≤ tt)) (lit≤ tt)
-      (refused-then (line-miss no-header) (line-hit LENGTH (inl h))))
+      (refused-then (line-miss (no-header file header)) (line-hit LENGTH (inl h))))
 
   module _ (whole : length file ≡ bytesTaken file) where
-    no-length : (length file ≢ bytesTaken file) ⊎ ((kindIn file ≡ curveKind) × (length file ≡ 1)) → ⊥
-    unfolding bytesTaken
-    no-length (inl h) = h whole
-    no-length (inr h) = omega (arith, more-than-one-byte (editionOf file) (profileOf file))
-
     -- a padding bit that is 1: 3
     pub pad-wrong : List·Memᴰ 1 (padding file) → Verdict (fileLines file) 3
     unfolding number
@@ -73,13 +61,71 @@ module _ (file : List ℕ) (header : RightHeader file) where
         refused-first {n = 3}
         (up-to-or (up-to-or (up-to-when HEADER (lit≤ tt)) (up-to-when LENGTH (lit≤ tt))) (up-to-when PAD (lit≤ tt)))
         (profile-from (profileOf file)) (lit≤ tt)
-        (refused-then (refused-then (line-miss no-header) (line-miss no-length)) (line-hit PAD m))
+        (refused-then (refused-then (line-miss (no-header file header)) (line-miss (no-length file whole))) (line-hit PAD m))
 
     -- and otherwise what the profile's own lines say
     pub profile-decides :
         {code : ℕ} → (List·Memᴰ 1 (padding file) → ⊥) → Verdict (profileLines (profileOf file)) code → Verdict (fileLines file) code
     profile-decides none v =
-        refused-then (refused-then (refused-then (line-miss no-header) (line-miss no-length)) (line-miss none)) v
+        refused-then (refused-then (refused-then (line-miss (no-header file header)) (line-miss (no-length file whole))) (line-miss none)) v
+
+-- ---- A file with something behind it, and a file cut short.
+
+-- a byte or more behind a file that is accepted: 2
+pub byte-behind : (file rest : List ℕ) → Clear (fileLines file) → 1 ≤ length rest → Verdict (fileLines (file ++ rest)) 2
+byte-behind file rest clear more =
+    length-wrong (file ++ rest)
+    (record {
+      filled = omega (arith, length-append file rest);
+      first = edition-append file rest enough ∙ header .first;
+      kind = rw (kind-append file rest enough) (header .kind);
+    })
+    (λ e. omega (arith, length-append file rest, taken-append file rest enough, whole))
+  where
+    header : RightHeader file
+    header = clear-header file clear
+
+    whole : length file ≡ bytesTaken file
+    whole = clear-whole file clear
+
+    enough : bytesTaken file ≤ length file
+    enough = omega (arith, whole)
+
+-- a file that is accepted cut short, its first byte and not all: 2
+pub cut-short : (file rest : List ℕ) → Clear (fileLines (file ++ rest)) → 1 ≤ length file → 1 ≤ length rest → Verdict (fileLines file) 2
+unfolding editionOf kindIn
+cut-short file rest clear some more =
+    length-wrong file
+    (record {
+      filled = some;
+      first = sym (field-append file rest 0 4 (omega arith)) ∙ header .first;
+      kind = rw (sym kind) (header .kind);
+    })
+    (λ e.
+    elim (ℕ-discrete (kindIn file) curveKind) [
+      | yes is ↦
+          elim (le-or-lt 2 (length file)) [
+            | inl h ↦
+                omega (
+                  arith,
+                  size,
+                  curve-taken file is,
+                  curve-taken (file ++ rest) (kind ∙ is),
+                  field-append file rest 8 6 (omega arith),
+                )
+            | inr h ↦ omega (arith, curve-taken file is)
+          ]
+      | no other ↦ omega (arith, size, server-taken file other, server-taken (file ++ rest) (λ is. other (sym kind ∙ is)))
+    ])
+  where
+    header : RightHeader (file ++ rest)
+    header = clear-header (file ++ rest) clear
+
+    kind : kindIn (file ++ rest) ≡ kindIn file
+    kind = field-append file rest 4 4 (omega arith)
+
+    size : length file + length rest ≡ bytesTaken (file ++ rest)
+    size = sym (length-append file rest) ∙ clear-whole (file ++ rest) clear
 
 -- ---- A curve or a server that is written.
 
