@@ -3,3 +3,4 @@ pub mod Routes
 pub mod Line
 pub mod Decimal
 pub mod Text
+pub mod EveryRoute

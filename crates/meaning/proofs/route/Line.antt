@@ -14,6 +14,7 @@ use Rattle.meaning.specs.Curve.{Bucket, curveOf, listOf, reads, NormalFo
 use Rattle.meaning.specs.Server.{Server, join, Behind, Delay, last}
 use Rattle.meaning.specs.Refusal.{Refusal, HEADER, LARGE, Clear, AllInRange, curveLines}
 use Rattle.meaning.specs.ServerQuestions.{ServerInRange, portLines}
+use Rattle.meaning.specs.Computed.{behind}
 use Rattle.meaning.specs.Profile.{Profile, curve, server, profileOf, bucketsOf, serverIn}
 use Rattle.meaning.specs.Route.{IsCurve, IsServer, afterFirst, joinLines, joinedWith, hopLines, Figures, FiguresOf, Report, passed, refusedAt, Onward, ends, bytes-left, stops, hop, Reported, no-curve, from-curve}
 use Rattle.meaning.proofs.Order.{not-above}
@@ -22,7 +23,7 @@ use Rattle.meaning.proofs.server.Excess.{gap-unique, excess-bounded}
 use Rattle.meaning.proofs.server.Delay.{delay-of-nothing, delay-from-excess}
 use Rattle.meaning.proofs.server.HopByHop.{hop-by-hop, joined-delay}
 use Rattle.meaning.proofs.server.Joining.{smallest-unique, rounded-up-is, last-inside}
-use Rattle.meaning.proofs.server.Behind.{backlog-behind}
+use Rattle.meaning.proofs.server.Behind.{behind-is, backlog-behind}
 use Rattle.meaning.proofs.server.Sizes.{backlog-fits, delay-fits}
 use Rattle.meaning.proofs.outcome.Stable.{server-stable}
 use Rattle.meaning.proofs.outcome.Answers.{clear-form, clear-fits, fits-ranged}
@@ -81,22 +82,29 @@ join-ranged : (before : Option Server) (s : Server) → ServerInRange s → Clea
 join-ranged none s ranged clear = ranged
 join-ranged (some b) s ranged clear = server-stable (λ out. clear LARGE (inr (refl, (join b s, refl, out))))
 
--- so of a hop of which no line holds,
-pub passable : (f : List Bucket) (before : Option Server) (input : List ℕ) → Clear (hopLines f before input) → Passable f before (serverIn (profileOf input))
-passable f before input clear =
+-- where no line holds of the curve with the server, nor of the joining,
+pub passable :
+    (f : List Bucket) (before : Option Server) (s : Server) → Clear (portLines (listOf f) s) → Clear (joinLines before s)
+    → Passable f before s
+passable f before s port joins =
     record {
       form = rw curve-list at (clear-form (listOf f) (port-curve (listOf f) s port));
       ranged = rw curve-list at (fits-ranged (clear-fits (listOf f) (port-curve (listOf f) s port)));
       in-range = port-server (listOf f) s port;
       bounded = rw curve-list at (not-above (port-bounded (listOf f) s port));
-      joined-in-range = join-ranged before s (port-server (listOf f) s port) (λ r h. clear r (inl (inr h)));
+      joined-in-range = join-ranged before s (port-server (listOf f) s port) joins;
     }
-  where
-    s : Server
-    s = serverIn (profileOf input)
 
-    port : Clear (portLines (listOf f) s)
-    port r h = clear r (inl (inl (inr h)))
+-- so of a hop of which no line holds;
+pub hop-passable :
+    (f : List Bucket) (before : Option Server) (input : List ℕ) → Clear (hopLines f before input)
+    → Passable f before (serverIn (profileOf input))
+hop-passable f before input clear =
+    passable f before (serverIn (profileOf input)) (λ r h. clear r (inl (inl (inr h)))) (λ r h. clear r (inl (inr h)))
+
+-- a curve stands behind the server
+pub passable-behind : {f : List Bucket} {before : Option Server} {s : Server} → Passable f before s → Behind f s (behind f s)
+passable-behind {f} {s = s} known = behind-is f s (known .form) (known .bounded)
 
 -- where a curve stands behind a server, there are a backlog and a delay
 pub figures-exist : {f g : List Bucket} {s : Server} → 1 ≤ length f → 1 ≤ s .rate → Behind f s g → (x : Figures) × FiguresOf f s x
@@ -127,16 +135,16 @@ figures-small {f} {s = s} form ranged in-range b x =
 -- ---- The route line.
 
 -- Some hops are passed: the curve from the last of them stands behind their servers joined, over the first curve.
-record Through (first : List Bucket) (hops : List Figures) (joined : Server) (f : List Bucket) : Type 0 where
-  form : NormalForm first
-  ranged : AllInRange first
-  in-range : ServerInRange joined
-  stands : Behind first joined f
-  small : AllSmall hops
-  line : (route : Figures) → FiguresOf first joined route → RouteLine hops route
+pub record Through (first : List Bucket) (hops : List Figures) (joined : Server) (f : List Bucket) : Type 0 where
+  pub form : NormalForm first
+  pub ranged : AllInRange first
+  pub in-range : ServerInRange joined
+  pub stands : Behind first joined f
+  pub small : AllSmall hops
+  pub line : (route : Figures) → FiguresOf first joined route → RouteLine hops route
 
 -- No hop is passed, or some are.
-abbrev Sofar : List Bucket → List Figures → Option Server → List Bucket → Type 0
+abbrev pub Sofar : List Bucket → List Figures → Option Server → List Bucket → Type 0
 Sofar first hops none f = (f ≡ first) × (hops ≡ [])
 Sofar first hops (some joined) f = Through first hops joined f
 
@@ -179,7 +187,7 @@ module _
         }
 
 -- so it goes on from no hop, and from some
-through :
+pub through :
     (hops : List Figures) {f g : List Bucket} (before : Option Server) {s : Server} {here : Figures} {first : List Bucket} → length hops < 32
     → Passable f before s → FiguresOf f s here → Behind f s g → Sofar first hops before f
     → Through first (hops ++ here ∷ []) (joinedWith before s) g
@@ -208,7 +216,7 @@ onward-line (ends route x) t = t .line route x
 onward-line (bytes-left h more) t = tt
 onward-line (stops r h due w) t = tt
 onward-line (hop {hops = hops} {before = before} {f = f} {input = input} here g h due clear x b onward) t =
-    onward-line onward (through hops before h (passable f before input clear) x b t)
+    onward-line onward (through hops before h (hop-passable f before input clear) x b t)
 
 -- the route's backlog is the last hop's, and its delay at most the hops' delays added
 pub route-line : {input : List ℕ} {hops : List Figures} {route : Figures} → Reported input (passed hops route) → RouteLine hops route
