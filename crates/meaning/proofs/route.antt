@@ -1,4 +1,5 @@
 -- The laws of the route program.
+pub mod BackToBack
 pub mod Routes
 pub mod Line
 pub mod Decimal

@@ -22,7 +22,8 @@ use Rattle.meaning.proofs.outcome.Stable.{decide-server}
 use Rattle.meaning.proofs.outcome.Demands.{port-up-to, server-up-to}
 use Rattle.meaning.proofs.outcome.EveryInput.{Decided, decide-line, decide-or, decide-too-large, server-decided, port-decided, HasBytes, bytes-outcome}
 use Rattle.meaning.proofs.outcome.Bytes.{one-bytes}
-use Rattle.meaning.proofs.profile.Decided.{file-decided, file-up-to}
+use Rattle.meaning.proofs.profile.Outcomes.{file-up-to}
+use Rattle.meaning.proofs.profile.Decided.{file-decided}
 use Rattle.meaning.proofs.server.HopByHop.{behind-unique}
 use Rattle.meaning.proofs.route.Routes.{one-route}
 use Rattle.meaning.proofs.route.Line.{passable, hop-passable, passable-behind, figures-exist, Through, Sofar, through}
