@@ -14,7 +14,7 @@ use Rattle.meaning.specs.Refusal.{Clear, curveLines, TooLarge}
 use Rattle.meaning.specs.ServerQuestions.{ServerInRange, portLines, BacklogOutcome, DelayOutcome}
 use Rattle.meaning.specs.Profile.{bitsOf, spelt, packed, fileBits, bytesOf, edition, Profile, curve, server, bucketFields, fields, profileBits, byteCount, written, field, bucketsIn, editionOf, kindIn, profileOf, bytesTaken}
 use Rattle.meaning.specs.Computed.{isNormal, normal, behind, backlog, delay, residual}
-use Rattle.meaning.specs.Route.{bytes, digits, numbers, hopLinesFrom, firstFile, afterFirst, IsCurve, IsServer, dueLines, joinLines, joinedWith, hopLines, Figures, FiguresOf, Report, Onward, Reported, text}
+use Rattle.meaning.specs.Route.{bytes, digits, numbers, hopText, routeText, hopTexts, firstFile, afterFirst, IsCurve, IsServer, dueLines, joinLines, joinedWith, hopLines, Figures, FiguresOf, Report, Onward, Reported, text}
 use Rattle.meaning.specs.Figures.{C, port, Table}
 use Rattle.meaning.proofs.Lists.{curve-list, EachInRange, all-in-range}
 use Rattle.meaning.proofs.curve.Neighbours.{neighbours-sound}
@@ -126,7 +126,7 @@ worked {f} s c slow some-rate =
 
 -- the figures P1 to P12
 pub table : Table
-unfolding buckets flat curveOf listOf reads pairs normal last valueAt behind backlog delay residual join written byteCount profileBits fields bucketFields packed bitsOf spelt bytesOf field fileBits bucketsIn editionOf kindIn profileOf bytesTaken firstFile afterFirst bytes digits numbers hopLinesFrom text BacklogOutcome DelayOutcome
+unfolding buckets flat curveOf listOf reads pairs normal last valueAt behind backlog delay residual join written byteCount profileBits fields bucketFields packed bitsOf spelt bytesOf field fileBits bucketsIn editionOf kindIn profileOf bytesTaken firstFile afterFirst bytes digits numbers hopText routeText hopTexts text BacklogOutcome DelayOutcome
 table =
     let c-first = worked (port 6 4) c-sound (lit≤ tt) (lit≤ tt) in
     let c32 = one-bucket 3 32 (omega arith) in
