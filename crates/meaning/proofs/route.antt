@@ -5,3 +5,5 @@ pub mod Line
 pub mod Decimal
 pub mod Text
 pub mod EveryRoute
+pub mod Steps
+pub mod Codes

@@ -1,7 +1,7 @@
 -- Profiles back to back: the profile at the start of an input stands in the bytes that its header requires, whatever comes after
 -- them; and a profile's file in front of other bytes is that profile.
 -- Assumes nothing.
-use mathlib.Core.Path.{_≡_, refl, sym, _∙_, ap, ap₂}
+use mathlib.Core.Path.{_≡_, refl, sym, _∙_, ap, subst}
 use mathlib.Core.Logic.{inl, inr, _≢_}
 use mathlib.Core.List.{List, [], _∷_, _++_, map, append-assoc}
 use Prim.Native.Nat.{ℕ, zero, suc, _+_, _*_, _/_, _≤_, _<_}
@@ -10,12 +10,13 @@ use native.Mathlib.Decide.{ℕ-discrete}
 use native.Mathlib.Omega.{arith}
 use lib.ListN.{length, take, drop, length-append, length-take, length-drop, take-append-drop}
 use lib.Seq.{take-all, take-append-le, drop-append-le, take-at, drop-at, length-take-le}
-use Rattle.meaning.specs.Curve.{Bucket}
-use Rattle.meaning.specs.Server.{Server}
-use Rattle.meaning.specs.Refusal.{LENGTH, Clear}
-use Rattle.meaning.specs.Profile.{bitsOf, spelt, _bits_, packed, fileBits, edition, curveKind, Profile, curve, server, byteCount, written, field, bucketsIn, editionOf, kindIn, profileOf, bytesTaken, padding, fileLines}
-use Rattle.meaning.specs.Route.{firstFile, afterFirst}
+use Rattle.meaning.specs.Curve.{NormalForm}
+use Rattle.meaning.specs.Refusal.{HEADER, LENGTH, RANGE, FORM, Clear}
+use Rattle.meaning.specs.ServerQuestions.{ServerInRange}
+use Rattle.meaning.specs.Profile.{bitsOf, spelt, _bits_, packed, fileBits, edition, curveKind, Profile, curve, server, byteCount, written, field, bucketsIn, editionOf, kindIn, profileOf, bytesTaken, profileLines, fileLines, bucketsOf, serverIn}
+use Rattle.meaning.specs.Route.{firstFile, afterFirst, IsCurve, IsServer, dueLines}
 use Rattle.meaning.proofs.Order.{le-or-lt, not-apart}
+use Rattle.meaning.proofs.outcome.Stable.{normal-stable, server-stable}
 use Rattle.meaning.proofs.profile.Bits.{length-file-bits}
 use Rattle.meaning.proofs.profile.Files.{written-length, curve-bits, server-bits, more-than-one-byte, length-buckets-in, held-curve, held-server}
 use Rattle.meaning.proofs.profile.RoundTrip.{ReadsBack}
@@ -157,6 +158,61 @@ module _ (input : List ℕ) where
               profile-same = ap profileOf same;
             }
       ]
+
+-- ---- What is due.
+
+module _ (input : List ℕ) (clear : Clear (fileLines (firstFile input))) where
+  -- where no line refuses the first file, its bytes are there,
+  file-whole : bytesTaken input ≤ length input
+  unfolding firstFile
+  file-whole =
+      let same : length (firstFile input) ≡ bytesTaken (firstFile input) =
+          not-apart (λ h. clear LENGTH (inl (inl (inr (refl, inl h)))))
+      in
+      omega (arith, same-start input .taken-same, length-take (bytesTaken input) input)
+
+  -- and no line holds of the profile
+  file-profile : Clear (profileLines (profileOf input))
+  file-profile =
+      subst (λ (p : Profile). Clear (profileLines p)) (same-start input .profile-same) (λ r h. clear r (inr h))
+
+module _ (input : List ℕ) (clear : Clear (dueLines IsCurve input)) where
+  -- a curve that is due and not refused is all there,
+  pub due-curve-whole : bytesTaken input ≤ length input
+  due-curve-whole = file-whole input (λ r h. clear r (inr h))
+
+  -- it is a curve,
+  pub due-curve : profileOf input ≡ curve (bucketsOf (profileOf input))
+  due-curve = is-curve (profileOf input) (λ h. clear HEADER (inl (refl, h)))
+    where
+      is-curve : (p : Profile) → ((IsCurve p → ⊥) → ⊥) → p ≡ curve (bucketsOf p)
+      is-curve (curve f) h = refl
+      is-curve (server s) h = absurd (h (λ x. x))
+
+  -- in normal form
+  pub due-form : NormalForm (bucketsOf (profileOf input))
+  due-form =
+      let lines = subst (λ (p : Profile). Clear (profileLines p)) due-curve (file-profile input (λ r h. clear r (inr h))) in
+      normal-stable (λ out. lines FORM (inr (refl, out)))
+
+module _ (input : List ℕ) (clear : Clear (dueLines IsServer input)) where
+  -- a server that is due and not refused is all there,
+  pub due-server-whole : bytesTaken input ≤ length input
+  due-server-whole = file-whole input (λ r h. clear r (inr h))
+
+  -- it is a server,
+  pub due-server : profileOf input ≡ server (serverIn (profileOf input))
+  due-server = is-server (profileOf input) (λ h. clear HEADER (inl (refl, h)))
+    where
+      is-server : (p : Profile) → ((IsServer p → ⊥) → ⊥) → p ≡ server (serverIn p)
+      is-server (curve f) h = absurd (h (λ x. x))
+      is-server (server s) h = refl
+
+  -- in range
+  pub due-in-range : ServerInRange (serverIn (profileOf input))
+  due-in-range =
+      let lines = subst (λ (p : Profile). Clear (profileLines p)) due-server (file-profile input (λ r h. clear r (inr h))) in
+      server-stable (λ out. lines RANGE (refl, out))
 
 -- ---- A profile's file in front of other bytes.
 

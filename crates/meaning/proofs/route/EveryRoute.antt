@@ -59,7 +59,7 @@ join-decided (some b) s =
     (map-dec (λ out. (join b s, refl, out)) (λ h. rw (h .1) at (h .2)) (Dec·not (decide-server (join b s)))))
 
 -- each of a number up to 9
-join-up-to : (before : Option Server) (s : Server) → UpTo 9 (joinLines before s)
+pub join-up-to : (before : Option Server) (s : Server) → UpTo 9 (joinLines before s)
 unfolding number
 join-up-to none s = λ r h. absurd h
 join-up-to (some b) s = up-to-or (up-to-or (up-to-when RANGE (lit≤ tt)) (up-to-when RANGE (lit≤ tt))) (up-to-when LARGE (lit≤ tt))

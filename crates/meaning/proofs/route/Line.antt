@@ -12,11 +12,11 @@ use native.Mathlib.Omega.{arith}
 use lib.ListN.{length, length-append}
 use Rattle.meaning.specs.Curve.{Bucket, curveOf, listOf, reads, NormalForm}
 use Rattle.meaning.specs.Server.{Server, join, Behind, Delay, last}
-use Rattle.meaning.specs.Refusal.{Refusal, HEADER, LARGE, Clear, AllInRange, curveLines}
+use Rattle.meaning.specs.Refusal.{Refusal, LARGE, Clear, AllInRange, curveLines}
 use Rattle.meaning.specs.ServerQuestions.{ServerInRange, portLines}
 use Rattle.meaning.specs.Computed.{behind}
-use Rattle.meaning.specs.Profile.{Profile, curve, server, profileOf, bucketsOf, serverIn}
-use Rattle.meaning.specs.Route.{IsCurve, IsServer, afterFirst, joinLines, joinedWith, hopLines, Figures, FiguresOf, Report, passed, refusedAt, Onward, ends, bytes-left, stops, hop, Reported, no-curve, from-curve}
+use Rattle.meaning.specs.Profile.{curve, server, profileOf, bucketsOf, serverIn}
+use Rattle.meaning.specs.Route.{afterFirst, joinLines, joinedWith, hopLines, Figures, FiguresOf, Report, passed, refusedAt, Onward, ends, bytes-left, stops, hop, Reported, no-curve, from-curve}
 use Rattle.meaning.proofs.Order.{not-above}
 use Rattle.meaning.proofs.Lists.{curve-list}
 use Rattle.meaning.proofs.server.Excess.{gap-unique, excess-bounded}
@@ -26,6 +26,7 @@ use Rattle.meaning.proofs.server.Joining.{smallest-unique, rounded-up-i
 use Rattle.meaning.proofs.server.Behind.{behind-is, backlog-behind}
 use Rattle.meaning.proofs.server.Sizes.{backlog-fits, delay-fits}
 use Rattle.meaning.proofs.outcome.Stable.{server-stable}
+use Rattle.meaning.proofs.route.BackToBack.{due-curve, due-server}
 use Rattle.meaning.proofs.outcome.Answers.{clear-form, clear-fits, fits-ranged}
 use Rattle.meaning.proofs.outcome.Demands.{port-curve, port-server, port-bounded}
 
@@ -148,6 +149,11 @@ abbrev pub Sofar : List Bucket → List Figures → Option Server → List Bucke
 Sofar first hops none f = (f ≡ first) × (hops ≡ [])
 Sofar first hops (some joined) f = Through first hops joined f
 
+-- so far every figure is small
+pub sofar-small : (first : List Bucket) (hops : List Figures) (before : Option Server) (f : List Bucket) → Sofar first hops before f → AllSmall hops
+sofar-small first hops none f none-passed = rw (none-passed .1) tt
+sofar-small first hops (some joined) f t = t .small
+
 -- A hop that is answered, with the hops before it:
 module _
     (hops : List Figures) {f g : List Bucket} {before : Option Server} {s : Server} {here : Figures} (short : length hops < 32)
@@ -253,16 +259,6 @@ pub record RouteOf (input : List ℕ) (hops : List Figures) (route : Figures) : 
   pub joined-is : allJoined none servers ≡ some joined
   pub route-is : FiguresOf first joined route
 
--- where a curve is due and there is none other, it is one,
-due-curve : (p : Profile) → ((IsCurve p → ⊥) → ⊥) → p ≡ curve (bucketsOf p)
-due-curve (curve f) h = refl
-due-curve (server s) h = absurd (h (λ x. x))
-
--- and so for a server
-due-server : (p : Profile) → ((IsServer p → ⊥) → ⊥) → p ≡ server (serverIn p)
-due-server (curve f) h = absurd (h (λ x. x))
-due-server (server s) h = refl
-
 -- From a place on: what comes after the hops so far.
 record RestOf (first : List Bucket) (hops : List Figures) (before : Option Server) (f : List Bucket) (input : List ℕ) (all : List Figures) (route : Figures) : Type 0 where
   servers : List Server
@@ -290,7 +286,7 @@ stands-hop {hops = hops} before f input {here} {g} clear x b (on rest) =
     (record {
       servers = serverIn (profileOf input) ∷ rest .servers;
       servers-are = (
-        due-server (profileOf input) (λ h. clear HEADER (inl (inl (inl (inl (refl, h)))))),
+        due-server input (λ r h. clear r (inl (inl (inl h)))),
         rest .servers-are,
       );
       more = here ∷ rest .more;
@@ -336,7 +332,7 @@ route-of {input} (from-curve clear onward) =
     let rest = rest-of (onward-stands onward) in
     record {
       first = bucketsOf (profileOf input);
-      first-is = due-curve (profileOf input) (λ h. clear HEADER (inl (refl, h)));
+      first-is = due-curve input clear;
       servers = rest .servers;
       servers-are = rest .servers-are;
       hops-are = subst (HopsOf (bucketsOf (profileOf input)) (rest .servers)) (sym (rest .all-are)) (rest .more-are);
