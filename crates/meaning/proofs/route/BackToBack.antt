@@ -4,8 +4,8 @@
 use mathlib.Core.Path.{_≡_, refl, sym, _∙_, ap, subst}
 use mathlib.Core.Logic.{inl, inr, _≢_}
 use mathlib.Core.List.{List, [], _∷_, _++_, map, append-assoc}
-use Prim.Native.Nat.{ℕ, zero, suc, _+_, _*_, _/_, _≤_, _<_}
-use native.Mathlib.Nat.{le-of-lt}
+use Prim.Native.Nat.{ℕ, zero, suc, _+_, _*_, _/_, _%_, _≤_, _<_}
+use native.Mathlib.Nat.{le-of-lt, div-one, div-div-eq-div-mul}
 use native.Mathlib.Decide.{ℕ-discrete}
 use native.Mathlib.Omega.{arith}
 use lib.ListN.{length, take, drop, length-append, length-take, length-drop, take-append-drop}
@@ -17,7 +17,7 @@ use Rattle.meaning.specs.Profile.{bitsOf, spelt, _bits_, packed, fileBit
 use Rattle.meaning.specs.Route.{firstFile, afterFirst, IsCurve, IsServer, dueLines}
 use Rattle.meaning.proofs.Order.{le-or-lt, not-apart}
 use Rattle.meaning.proofs.outcome.Stable.{normal-stable, server-stable}
-use Rattle.meaning.proofs.profile.Bits.{length-file-bits}
+use Rattle.meaning.proofs.profile.Bits.{spelt-mod, length-file-bits}
 use Rattle.meaning.proofs.profile.Files.{written-length, curve-bits, server-bits, more-than-one-byte, length-buckets-in, held-curve, held-server}
 use Rattle.meaning.proofs.profile.RoundTrip.{ReadsBack}
 
@@ -42,6 +42,41 @@ module _ (input : List ℕ) where
   pub takes-some : 1 < bytesTaken input
   unfolding bytesTaken
   takes-some = more-than-one-byte (editionOf input) (profileOf input)
+
+-- ---- The header by its bytes.
+
+-- the upper bits of a byte are those of a quotient
+upper-four : (b : ℕ) (l : List ℕ) → take 4 (bitsOf 8 b ++ l) ≡ bitsOf 4 (b / 16)
+unfolding bitsOf
+upper-four b l =
+    cc (div-div-eq-div-mul b 16 8, div-div-eq-div-mul b 16 4, div-div-eq-div-mul b 16 2, div-one (b / 16))
+
+upper-six : (b : ℕ) (l : List ℕ) → take 6 (bitsOf 8 b ++ l) ≡ bitsOf 6 (b / 4)
+unfolding bitsOf
+upper-six b l =
+    cc (
+      div-div-eq-div-mul b 4 32,
+      div-div-eq-div-mul b 4 16,
+      div-div-eq-div-mul b 4 8,
+      div-div-eq-div-mul b 4 4,
+      div-div-eq-div-mul b 4 2,
+      div-one (b / 4),
+    )
+
+-- the first byte's upper half is the edition,
+pub edition-byte : (b : ℕ) (l : List ℕ) → editionOf (b ∷ l) ≡ b / 16 % 16
+unfolding editionOf field fileBits packed
+edition-byte b l = ap spelt (upper-four b (fileBits l)) ∙ spelt-mod 4 (b / 16)
+
+-- its lower half the kind,
+pub kind-byte : (b : ℕ) (l : List ℕ) → kindIn (b ∷ l) ≡ b % 16
+unfolding kindIn field fileBits packed bitsOf
+kind-byte b l = spelt-mod 4 b
+
+-- and the second byte's upper six bits the count minus one
+pub count-byte : (b c : ℕ) (l : List ℕ) → field (b ∷ c ∷ l) 8 6 ≡ c / 4 % 64
+unfolding field fileBits packed bitsOf
+count-byte b c l = ap spelt (upper-six c (fileBits l)) ∙ spelt-mod 6 (c / 4)
 
 -- ---- What stands in the first bytes of an input.
 

@@ -17,11 +17,14 @@ use Rattle.meaning.specs.Refusal.{Refusal, HEADER, LENGTH, PAD, RANGE, U
 use Rattle.meaning.specs.ServerQuestions.{ServerInRange, serverLines, portLines, passing, BacklogOutcome, DelayOutcome, JoinOutcome, ServerOutcome}
 use Rattle.meaning.specs.Profile.{curveKind, Profile, curve, server, kindIn, profileOf, bytesTaken, profileLines, fileLines, bucketsOf, serverIn, Reading, ReadOutcome}
 use Rattle.meaning.specs.Route.{firstFile, IsCurve, IsServer, dueLines, joinLines, joinedWith, hopLines, Figures, hopText, refusedText, Route}
-use Rattle.meaning.proofs.Lists.{list-length}
-use Rattle.meaning.proofs.outcome.Outcomes.{number-positive, From, from-when, from-or, UpTo, up-to-when, up-to-or, clear-or, refused-first, refused-then}
+use Rattle.meaning.proofs.Lists.{list-length, over-start}
+use Rattle.meaning.proofs.outcome.Outcomes.{number-positive, From, from-when, from-or, UpTo, up-to-when, up-to-or, line-miss, clear-or, refused-then}
 use Rattle.meaning.proofs.outcome.Answers.{code-zero, fits-few, readBack, answered-list, figure-answered}
 use Rattle.meaning.proofs.outcome.Demands.{answered-join, port-up-to}
-use Rattle.meaning.proofs.outcome.EveryInput.{decide-too-large}
+use Rattle.meaning.proofs.outcome.EveryInput.{Decided, decide-too-large}
+use Rattle.meaning.proofs.profile.Files.{held-few, held-curve, held-server}
+use Rattle.meaning.proofs.profile.Outcomes.{only-read, only-refused, read-file}
+use Rattle.meaning.proofs.profile.Decided.{file-decided}
 use Rattle.meaning.proofs.server.HopByHop.{behind-unique}
 use Rattle.meaning.proofs.route.BackToBack.{same-start, due-server, due-in-range}
 use Rattle.meaning.proofs.route.Line.{Sofar}
@@ -64,6 +67,63 @@ due-low input {r} w = by-profile (profileOf input) refl
         (up-to-or (up-to-or (up-to-or (up-to-when HEADER (lit≤ tt)) (up-to-when LENGTH (lit≤ tt))) (up-to-when PAD (lit≤ tt)))
         (subst (λ (p : Profile). UpTo 6 (profileLines p)) (sym (same-start input .profile-same ∙ e)) (up-to-when RANGE (lit≤ tt))))
         r (w .holds)
+
+-- ---- Reading.
+
+-- the reader's code is that of the file's lines, where the list has room for the buckets
+read-code :
+    {file before after : List ℕ} {x : Reading} → ReadOutcome file before after x
+    → length (listOf (bucketsOf (profileOf file))) ≤ length before → Verdict (fileLines file) (x .code)
+read-code {file} {before} {after} {x} o room = by-lines (file-decided file)
+  where
+    by-lines : Decided (fileLines file) → Verdict (fileLines file) (x .code)
+    by-lines (code, rejected r w e) =
+        rw (only-refused {code = code} (omega (arith, e, number-positive r)) (rejected r w e) o .code-same) (rejected r w e)
+    by-lines (code, accepted clear e) = accepted clear (only-read file clear .with-room room o .code-same)
+
+module _ (input : List ℕ) where
+  -- a curve where a server is due is 1,
+  pub curve-there : kindIn input ≡ curveKind → Verdict (dueLines IsServer input) 1
+  unfolding number
+  curve-there kind =
+      rejected HEADER
+      (record { holds = inl (refl, λ due. rw (held-curve input kind) at due); smallest = λ r h. number-positive r })
+      refl
+
+  -- and anything else where the curve is due
+  pub no-curve-there : kindIn input ≢ curveKind → Verdict (dueLines IsCurve input) 1
+  unfolding number
+  no-curve-there kind =
+      rejected HEADER
+      (record { holds = inl (refl, λ due. rw (held-server input kind) at due); smallest = λ r h. number-positive r })
+      refl
+
+  module _ {before after : List ℕ} {x : Reading} (o : ReadOutcome (firstFile input) before after x) where
+    -- else it is the reader's code: of a server, whatever list is lent,
+    pub server-code : kindIn input ≢ curveKind → Verdict (dueLines IsServer input) (x .code)
+    server-code kind =
+        refused-then (line-miss (λ other. other (rw (held-server input kind) tt)))
+        (read-code o (rw (same-start input .profile-same ∙ held-server input kind) (omega (arith, list-length []))))
+
+    -- and of a curve, with room for 64 buckets
+    pub curve-code : kindIn input ≡ curveKind → width * 64 ≤ length before → Verdict (dueLines IsCurve input) (x .code)
+    curve-code kind room =
+        refused-then (line-miss (λ other. other (rw (held-curve input kind) tt)))
+        (read-code o (omega (arith, list-length (bucketsOf (profileOf (firstFile input))), held-few (firstFile input))))
+
+    module _ (answered : x .code ≡ 0) where
+      -- the server that is read is the one that stands there,
+      pub server-told : x .server ≡ serverIn (profileOf input)
+      server-told = o .told .accepted answered .1 ∙ ap serverIn (same-start input .profile-same)
+
+      -- and the list that is read is the curve's
+      pub curve-told : readBack after (x .count) ≡ listOf (bucketsOf (profileOf input))
+      curve-told =
+          let f = bucketsOf (profileOf (firstFile input)) in
+          let read = read-file o answered .told in
+          let size : width * x .count ≡ length (listOf f) = omega (arith, read .count-same, list-length f) in
+          rw (size, read .after-same)
+          (over-start (listOf f) before ∙ ap (λ (p : Profile). listOf (bucketsOf p)) (same-start input .profile-same))
 
 -- ---- Joining.
 
