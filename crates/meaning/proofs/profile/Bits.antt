@@ -2,7 +2,7 @@
 -- Assumes nothing.
 use mathlib.Core.Path.{_≡_, refl, sym, _∙_, ap}
 use mathlib.Core.Logic.{inl, inr, _≢_}
-use mathlib.Core.List.{List, [], _∷_, _++_, map, List·Memᴰ, List·Memᴰ·head, List·Memᴰ·tail, List·Memᴰ·cases-cons}
+use mathlib.Core.List.{List, [], _∷_, _++_, map, append-assoc, List·Memᴰ, List·Memᴰ·head, List·Memᴰ·tail, List·Memᴰ·cases-cons}
 use Prim.Native.Nat.{ℕ, zero, suc, _+_, _-_, _*_, _/_, _%_, _^_, _≤_, _<_}
 use native.Mathlib.Nat.{lt-of-lt-of-le, le-refl, mul-le-mul, mul-add-mod-self-left, mod-lt, mod-eq-of-lt, mod-one, mul-add-div-right, two-pow-succ}
 use native.Mathlib.Decide.{ℕ-discrete}
@@ -170,6 +170,13 @@ pub length-file-bits : (file : List ℕ) → length (fileBits file) ≡ 8 * leng
 unfolding fileBits packed
 length-file-bits [] = refl
 length-file-bits (x ∷ file) = omega (arith, length-packed 8 x (map (_bits_ 8) file), length-file-bits file)
+
+-- the bits of two files one behind the other
+pub file-bits-append : (file rest : List ℕ) → fileBits (file ++ rest) ≡ fileBits file ++ fileBits rest
+unfolding fileBits packed
+file-bits-append [] rest = refl
+file-bits-append (x ∷ file) rest =
+    ap (λ (l : List ℕ). bitsOf 8 x ++ l) (file-bits-append file rest) ∙ sym (append-assoc (bitsOf 8 x) (fileBits file) (fileBits rest))
 
 -- Every number of the file is a byte.
 abbrev pub Bytes : List ℕ → Type 0
