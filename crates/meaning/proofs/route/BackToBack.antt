@@ -2,46 +2,25 @@
 -- them; and a profile's file in front of other bytes is that profile.
 -- Assumes nothing.
 use mathlib.Core.Path.{_≡_, refl, sym, _∙_, ap, subst}
-use mathlib.Core.Logic.{inl, inr, _≢_}
-use mathlib.Core.List.{List, [], _∷_, _++_, map, append-assoc}
-use Prim.Native.Nat.{ℕ, zero, suc, _+_, _*_, _/_, _%_, _≤_, _<_}
+use mathlib.Core.Logic.{inl, inr}
+use mathlib.Core.List.{List, _∷_, _++_}
+use Prim.Native.Nat.{ℕ, _/_, _%_, _≤_, _<_}
 use native.Mathlib.Nat.{le-of-lt, div-one, div-div-eq-div-mul}
 use native.Mathlib.Decide.{ℕ-discrete}
 use native.Mathlib.Omega.{arith}
-use lib.ListN.{length, take, drop, length-append, length-take, length-drop, take-append-drop}
-use lib.Seq.{take-all, take-append-le, drop-append-le, take-at, drop-at, length-take-le}
+use lib.ListN.{length, take, length-take, take-append-drop}
+use lib.Seq.{take-all, take-at, drop-at, length-take-le}
 use Rattle.meaning.specs.Curve.{NormalForm}
-use Rattle.meaning.specs.Refusal.{HEADER, LENGTH, RANGE, FORM, Clear}
+use Rattle.meaning.specs.Refusal.{HEADER, RANGE, FORM, Clear}
 use Rattle.meaning.specs.ServerQuestions.{ServerInRange}
-use Rattle.meaning.specs.Profile.{bitsOf, spelt, _bits_, packed, fileBits, edition, curveKind, Profile, curve, server, byteCount, written, field, bucketsIn, editionOf, kindIn, profileOf, bytesTaken, profileLines, fileLines, bucketsOf, serverIn}
+use Rattle.meaning.specs.Profile.{bitsOf, spelt, packed, fileBits, edition, curveKind, Profile, curve, server, written, field, editionOf, kindIn, profileOf, bytesTaken, profileLines, fileLines, bucketsOf, serverIn}
 use Rattle.meaning.specs.Route.{firstFile, afterFirst, IsCurve, IsServer, dueLines}
-use Rattle.meaning.proofs.Order.{le-or-lt, not-apart}
+use Rattle.meaning.proofs.Order.{le-or-lt}
 use Rattle.meaning.proofs.outcome.Stable.{normal-stable, server-stable}
-use Rattle.meaning.proofs.profile.Bits.{spelt-mod, length-file-bits}
-use Rattle.meaning.proofs.profile.Files.{written-length, curve-bits, server-bits, more-than-one-byte, length-buckets-in, held-curve, held-server}
-use Rattle.meaning.proofs.profile.RoundTrip.{ReadsBack}
-
--- ---- How many bytes a header requires.
-
-module _ (input : List ℕ) where
-  -- a curve of n buckets takes (60·n + 21)/8 bytes,
-  pub curve-takes : kindIn input ≡ curveKind → bytesTaken input ≡ (60 * (field input 8 6 + 1) + 21) / 8
-  unfolding bytesTaken byteCount
-  curve-takes kind =
-      rw (held-curve input kind)
-      (omega (arith, curve-bits (editionOf input) (bucketsIn input 14 (field input 8 6 + 1)), length-buckets-in input 14 (field input 8 6 + 1)))
-
-  -- and anything else 6
-  pub server-takes : kindIn input ≢ curveKind → bytesTaken input ≡ 6
-  unfolding bytesTaken byteCount
-  server-takes kind =
-      rw (held-server input kind)
-      (omega (arith, server-bits (editionOf input) (record { rate = field input 8 20; latency = field input 28 20 })))
-
-  -- more than one in any case
-  pub takes-some : 1 < bytesTaken input
-  unfolding bytesTaken
-  takes-some = more-than-one-byte (editionOf input) (profileOf input)
+use Rattle.meaning.proofs.profile.Bits.{spelt-mod}
+use Rattle.meaning.proofs.profile.Fields.{field-append}
+use Rattle.meaning.proofs.profile.Files.{more-than-one-byte, curve-taken, server-taken, edition-append, kind-append, held-append, taken-append}
+use Rattle.meaning.proofs.profile.RoundTrip.{clear-whole, ReadsBack}
 
 -- ---- The header by its bytes.
 
@@ -78,69 +57,15 @@ pub count-byte : (b c : ℕ) (l : List ℕ) → field (b ∷ c ∷ l) 8 6 ≡ c 
 unfolding field fileBits packed bitsOf
 count-byte b c l = ap spelt (upper-six c (fileBits l)) ∙ spelt-mod 6 (c / 4)
 
--- ---- What stands in the first bytes of an input.
-
--- the bits of bytes one after the other
-bits-append : (a b : List ℕ) → fileBits (a ++ b) ≡ fileBits a ++ fileBits b
-unfolding fileBits packed
-bits-append [] b = refl
-bits-append (x ∷ a) b =
-    ap (λ (l : List ℕ). bitsOf 8 x ++ l) (bits-append a b) ∙ sym (append-assoc (bitsOf 8 x) (fileBits a) (fileBits b))
-
-module _ (a b : List ℕ) where
-  -- a field inside the first bytes is what it is without the others,
-  field-front : (at w : ℕ) → at + w ≤ 8 * length a → field (a ++ b) at w ≡ field a at w
-  unfolding field
-  field-front at w h =
-      let size = length-file-bits a in
-      ap (λ (l : List ℕ). spelt (take w (drop at l))) (bits-append a b)
-      ∙ ap (λ (l : List ℕ). spelt (take w l)) (drop-append-le at (fileBits a) (fileBits b) (omega arith))
-      ∙ ap spelt (take-append-le w (drop at (fileBits a)) (fileBits b) (simp length-drop (omega arith)))
-
-  -- and so are buckets inside them
-  buckets-front : (at n : ℕ) → at + 60 * n ≤ 8 * length a → bucketsIn (a ++ b) at n ≡ bucketsIn a at n
-  unfolding bucketsIn
-  buckets-front at zero h = refl
-  buckets-front at (suc n) h =
-      cc (field-front at 20 (omega arith), field-front (at + 20) 40 (omega arith), buckets-front (at + 60) n (omega arith))
-
-  module _ (two : 2 ≤ length a) where
-    -- two bytes fix the edition,
-    pub edition-front : editionOf (a ++ b) ≡ editionOf a
-    unfolding editionOf
-    edition-front = field-front 0 4 (omega arith)
-
-    -- the kind,
-    pub kind-front : kindIn (a ++ b) ≡ kindIn a
-    unfolding kindIn
-    kind-front = field-front 4 4 (omega arith)
-
-    -- and the byte count required
-    pub taken-front : bytesTaken (a ++ b) ≡ bytesTaken a
-    taken-front =
-        elim (ℕ-discrete (kindIn a) curveKind) [
-          | yes kind ↦
-              curve-takes (a ++ b) (kind-front ∙ kind)
-              ∙ ap (λ (n : ℕ). (60 * (n + 1) + 21) / 8) (field-front 8 6 (omega arith))
-              ∙ sym (curve-takes a kind)
-          | no kind ↦ server-takes (a ++ b) (λ e. kind (sym kind-front ∙ e)) ∙ sym (server-takes a kind)
-        ]
-
-    -- where they are all there they fix the profile
-    pub profile-front : bytesTaken a ≤ length a → profileOf (a ++ b) ≡ profileOf a
-    profile-front whole =
-        elim (ℕ-discrete (kindIn a) curveKind) [
-          | yes kind ↦
-              held-curve (a ++ b) (kind-front ∙ kind)
-              ∙ ap (λ (n : ℕ). curve (bucketsIn (a ++ b) 14 (n + 1))) (field-front 8 6 (omega arith))
-              ∙ ap curve (buckets-front 14 (field a 8 6 + 1) (omega (arith, curve-takes a kind)))
-              ∙ sym (held-curve a kind)
-          | no kind ↦
-              let inside : 6 ≤ length a = omega (arith, server-takes a kind) in
-              held-server (a ++ b) (λ e. kind (sym kind-front ∙ e))
-              ∙ cc (field-front 8 20 (omega arith), field-front 28 20 (omega arith))
-              ∙ sym (held-server a kind)
-        ]
+-- two bytes fix the byte count required
+header-front : (a b : List ℕ) → 2 ≤ length a → bytesTaken (a ++ b) ≡ bytesTaken a
+unfolding kindIn
+header-front a b two =
+    let kind : kindIn (a ++ b) ≡ kindIn a = field-append a b 4 4 (omega arith) in
+    elim (ℕ-discrete (kindIn a) curveKind) [
+      | yes e ↦ omega (arith, curve-taken (a ++ b) (kind ∙ e), field-append a b 8 6 (omega arith), curve-taken a e)
+      | no e ↦ server-taken (a ++ b) (λ k. e (sym kind ∙ k)) ∙ sym (server-taken a e)
+    ]
 
 -- ---- The profile at the start.
 
@@ -169,20 +94,21 @@ module _ (input : List ℕ) where
 
   -- so the first file begins as the input does
   pub same-start : SameStart input
+  unfolding bytesTaken
   same-start =
       elim (le-or-lt (bytesTaken input) (length input)) [
         | inl whole ↦
-            let two : 2 ≤ length (firstFile input) = omega (arith, first-length whole, takes-some input) in
-            let taken : bytesTaken (firstFile input) ≡ bytesTaken input =
-                sym (taken-front (firstFile input) (afterFirst input) two) ∙ ap bytesTaken (sym first-after)
+            let size = first-length whole in
+            let two : 1 < bytesTaken input = more-than-one-byte (editionOf input) (profileOf input) in
+            let taken : bytesTaken input ≡ bytesTaken (firstFile input) =
+                ap bytesTaken first-after ∙ header-front (firstFile input) (afterFirst input) (omega arith)
             in
+            let enough : bytesTaken (firstFile input) ≤ length (firstFile input) = omega arith in
             record {
-              edition-same = sym (edition-front (firstFile input) (afterFirst input) two) ∙ ap editionOf (sym first-after);
-              kind-same = sym (kind-front (firstFile input) (afterFirst input) two) ∙ ap kindIn (sym first-after);
-              taken-same = taken;
-              profile-same =
-                  sym (profile-front (firstFile input) (afterFirst input) two (omega (arith, first-length whole)))
-                  ∙ ap profileOf (sym first-after);
+              edition-same = sym (ap editionOf first-after ∙ edition-append (firstFile input) (afterFirst input) enough);
+              kind-same = sym (ap kindIn first-after ∙ kind-append (firstFile input) (afterFirst input) enough);
+              taken-same = sym taken;
+              profile-same = sym (ap profileOf first-after ∙ held-append (firstFile input) (afterFirst input) enough);
             }
         | inr short ↦
             let same = cut-short (le-of-lt short) in
@@ -201,10 +127,7 @@ module _ (input : List ℕ) (clear : Clear (fileLines (firstFile input))) where
   file-whole : bytesTaken input ≤ length input
   unfolding firstFile
   file-whole =
-      let same : length (firstFile input) ≡ bytesTaken (firstFile input) =
-          not-apart (λ h. clear LENGTH (inl (inl (inr (refl, inl h)))))
-      in
-      omega (arith, same-start input .taken-same, length-take (bytesTaken input) input)
+      omega (arith, clear-whole (firstFile input) clear, same-start input .taken-same, length-take (bytesTaken input) input)
 
   -- and no line holds of the profile
   file-profile : Clear (profileLines (profileOf input))
@@ -262,11 +185,11 @@ pub begins : {p : Profile} → ReadsBack p → (rest : List ℕ) → Begins (wri
 unfolding firstFile afterFirst
 begins {p} back rest =
     let file = written edition p in
-    let whole : length file ≡ bytesTaken file = not-apart (λ h. back .clear LENGTH (inl (inl (inr (refl, inl h))))) in
-    let two : 2 ≤ length file = omega (arith, takes-some file) in
-    let taken : length file ≡ bytesTaken (file ++ rest) = whole ∙ sym (taken-front file rest two) in
+    let whole = clear-whole file (back .clear) in
+    let enough : bytesTaken file ≤ length file = omega arith in
+    let taken : length file ≡ bytesTaken (file ++ rest) = whole ∙ sym (taken-append file rest enough) in
     record {
-      holds = profile-front file rest two (omega arith) ∙ back .same;
+      holds = held-append file rest enough ∙ back .same;
       file = take-at file rest (bytesTaken (file ++ rest)) taken;
       after = drop-at file rest (bytesTaken (file ++ rest)) taken;
     }

@@ -78,7 +78,7 @@ read-code {file} {before} {after} {x} o room = by-lines (file-decided file)
   where
     by-lines : Decided (fileLines file) → Verdict (fileLines file) (x .code)
     by-lines (code, rejected r w e) =
-        rw (only-refused {code = code} (omega (arith, e, number-positive r)) (rejected r w e) o .code-same) (rejected r w e)
+        rw (only-refused (omega (arith, e, number-positive r)) (rejected r w e) .whatever-list o .code-same) (rejected r w e)
     by-lines (code, accepted clear e) = accepted clear (only-read file clear .with-room room o .code-same)
 
 module _ (input : List ℕ) where

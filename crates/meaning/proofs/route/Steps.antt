@@ -19,6 +19,7 @@ use Rattle.meaning.specs.Profile.{curveKind, Profile, curve, server, kin
 use Rattle.meaning.specs.Route.{firstFile, afterFirst, IsCurve, IsServer, dueLines, joinLines, joinedWith, hopLines, Figures, FiguresOf, Report, passed, refusedAt, Onward, ends, bytes-left, stops, hop, Reported, no-curve, from-curve, hopText, routeText, refusedText, hopTexts, text, Route}
 use Rattle.meaning.proofs.Lists.{list-length, curve-list}
 use Rattle.meaning.proofs.outcome.Outcomes.{number-positive, From, from-when, from-or, clear-or}
+use Rattle.meaning.proofs.outcome.Answers.{fits-few, fits-ranged, sound-clear}
 use Rattle.meaning.proofs.outcome.Demands.{figure-clear}
 use Rattle.meaning.proofs.server.Excess.{excess-bounded}
 use Rattle.meaning.proofs.profile.Files.{held-few, read-in-range}
@@ -44,20 +45,7 @@ pub record Going (input first printed : List ℕ) (n : ℕ) (joined : Option Ser
   pub decides :
       (report : Report) → Onward (curveOf first) hops joined (curveOf f) (drop at input) report → Reported input report
 
--- a curve in normal form that is not too large is taken wherever a curve is
-form-clear : (f : List Bucket) → NormalForm f → (TooLarge f → ⊥) → Clear (curveLines (listOf f))
-form-clear f form fits r (inl (inl (inl (e, inl empty)))) = omega (arith, list-length f, form .some)
-form-clear f form fits r (inl (inl (inl (e, inr odd)))) = omega (arith, list-length f)
-form-clear f form fits r (inl (inl (inr h))) = fits (inl (rw curve-list at (h .1)))
-form-clear f form fits r (inl (inr h)) = fits (inr (rw curve-list at (h .1)))
-form-clear f form fits r (inr h) = h .1 (rw curve-list form)
-
 -- ---- The curve.
-
--- the curve that a file holds is never too large
-held-fits : (file : List ℕ) → TooLarge (bucketsOf (profileOf file)) → ⊥
-held-fits file (inl many) = omega (arith, held-few file)
-held-fits file (inr out) = out (read-in-range file)
 
 module _ (input : List ℕ) where
   -- refused: the program ends,
@@ -79,9 +67,9 @@ module _ (input : List ℕ) where
           few = lit≤ tt;
           printed-is = refl;
           inside = due-curve-whole input clear;
-          first-taken = form-clear _ (due-form input clear) (held-fits input);
+          first-taken = sound-clear _ (due-form input clear) (read-in-range input) (held-few input);
           list-is = rw curve-list;
-          taken = form-clear _ (due-form input clear) (held-fits input);
+          taken = sound-clear _ (due-form input clear) (read-in-range input) (held-few input);
           sofar = (refl, refl);
           decides = λ report on. from-curve clear (rw curve-list at on);
         }
@@ -145,6 +133,7 @@ module _ {input first printed : List ℕ} {n : ℕ} {joined : Option Server} {f 
         (at + bytesTaken (drop at input))
     unfolding afterFirst
     going-hop x h clear figures behind =
+        let fits : TooLarge h → ⊥ = λ large. clear LARGE (inr (refl, (h, behind, large))) in
         record {
           hops = go .hops ++ x ∷ [];
           count-is = simp length-append (omega (arith, go .count-is));
@@ -155,7 +144,7 @@ module _ {input first printed : List ℕ} {n : ℕ} {joined : Option Server} {f 
           inside = omega (arith, go .inside, due-server-whole (drop at input) (λ r l. clear r (inl (inl (inl l)))), length-drop at input);
           first-taken = go .first-taken;
           list-is = rw curve-list;
-          taken = form-clear h (behind .normal .form) (λ large. clear LARGE (inr (refl, (h, behind, large))));
+          taken = sound-clear h (behind .normal .form) (fits-ranged fits) (fits-few fits);
           sofar = rw curve-list (through (go .hops) joined (omega (arith, go .count-is)) (hop-passable (curveOf f) joined (drop at input) clear) figures behind (go .sofar));
           decides =
               λ report on.
