@@ -5,5 +5,6 @@ pub mod Line
 pub mod Decimal
 pub mod Text
 pub mod EveryRoute
+pub mod Standing
 pub mod Steps
 pub mod Codes
