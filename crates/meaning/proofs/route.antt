@@ -6,5 +6,6 @@ pub mod Decimal
 pub mod Text
 pub mod EveryRoute
 pub mod Standing
+pub mod Written
 pub mod Steps
 pub mod Codes

@@ -5,16 +5,16 @@
 use mathlib.Core.Path.{_≡_, refl, sym, _∙_, ap, subst}
 use mathlib.Core.Logic.{inl, inr, _≢_}
 use mathlib.Core.Option.{Option, none, some}
-use mathlib.Core.List.{List, [], _∷_, _++_}
+use mathlib.Core.List.{List, [], _++_}
 use Prim.Native.Nat.{ℕ, _+_, _*_, _≤_, _<_}
 use native.Mathlib.Nat.{le-trans}
 use native.Mathlib.Omega.{arith}
 use lib.Dec.{lit≤}
 use lib.ListN.{length, drop}
 use Rattle.meaning.specs.Curve.{Bucket, width, curveOf, listOf}
-use Rattle.meaning.specs.Server.{Server, join, Behind}
-use Rattle.meaning.specs.Refusal.{Refusal, HEADER, LENGTH, PAD, RANGE, UNBOUNDED, LARGE, ROOM, number, Lines, _when_, _or_, Wins, Clear, Verdict, accepted, rejected, TooLarge, curveLines, Question, allLines, Outcome}
-use Rattle.meaning.specs.ServerQuestions.{ServerInRange, serverLines, portLines, passing, BacklogOutcome, DelayOutcome, JoinOutcome, ServerOutcome}
+use Rattle.meaning.specs.Server.{Server, Behind}
+use Rattle.meaning.specs.Refusal.{Refusal, HEADER, LENGTH, PAD, RANGE, UNBOUNDED, LARGE, ROOM, number, Lines, _when_, _or_, Wins, Clear, Verdict, accepted, rejected, TooLarge, Question, allLines, Outcome}
+use Rattle.meaning.specs.ServerQuestions.{ServerInRange, portLines, passing, BacklogOutcome, DelayOutcome, JoinOutcome, ServerOutcome}
 use Rattle.meaning.specs.Profile.{curveKind, Profile, curve, server, kindIn, profileOf, bytesTaken, profileLines, fileLines, bucketsOf, serverIn, Reading, ReadOutcome}
 use Rattle.meaning.specs.Route.{firstFile, IsCurve, IsServer, dueLines, joinLines, joinedWith, hopLines, Figures, hopText, refusedText, Route}
 use Rattle.meaning.proofs.Lists.{list-length, over-start}
@@ -26,7 +26,7 @@ use Rattle.meaning.proofs.profile.Files.{held-few, held-curve, held-ser
 use Rattle.meaning.proofs.profile.Outcomes.{only-read, only-refused, read-file}
 use Rattle.meaning.proofs.profile.Decided.{file-decided}
 use Rattle.meaning.proofs.server.HopByHop.{behind-unique}
-use Rattle.meaning.proofs.route.BackToBack.{same-start, due-server, due-in-range}
+use Rattle.meaning.proofs.route.BackToBack.{same-start, due-in-range}
 use Rattle.meaning.proofs.route.Line.{Sofar}
 use Rattle.meaning.proofs.route.EveryRoute.{join-up-to}
 use Rattle.meaning.proofs.route.Steps.{Going, ServerDue, serverAt, going-stops, going-hop}

@@ -1,27 +1,27 @@
 -- Every input has an output, and so an outcome over every lent buffer: at each place each line of the table can be decided, and
 -- where none holds there are figures and a curve behind; after 32 hops at most the input ends or bytes are left.
 -- Assumes nothing.
-use mathlib.Core.Path.{_≡_, refl, sym, _∙_, ap}
+use mathlib.Core.Path.{_≡_, refl, ap}
 use mathlib.Core.Logic.{inl, inr, Dec·not}
 use mathlib.Core.Option.{Option, none, some}
 use mathlib.Core.List.{List, [], _∷_, _++_}
-use Prim.Native.Nat.{ℕ, zero, suc, _+_, _≤_, _<_}
+use Prim.Native.Nat.{ℕ, zero, suc, _+_, _<_}
 use native.Mathlib.Decide.{decLe, map-dec}
 use native.Mathlib.Omega.{arith}
 use lib.Dec.{lit≤}
 use lib.ListN.{length, length-append}
 use Rattle.meaning.specs.Curve.{Bucket, curveOf, listOf}
 use Rattle.meaning.specs.Server.{Server, join, last, Behind}
-use Rattle.meaning.specs.Refusal.{HEADER, RANGE, LARGE, number, Lines, _when_, _or_, Clear, Verdict, accepted, rejected, TooLarge}
-use Rattle.meaning.specs.ServerQuestions.{ServerInRange, portLines}
-use Rattle.meaning.specs.Profile.{Profile, curve, server, profileOf, bucketsOf, serverIn}
+use Rattle.meaning.specs.Refusal.{HEADER, RANGE, LARGE, number, Lines, _when_, _or_, Clear, accepted, rejected, TooLarge}
+use Rattle.meaning.specs.ServerQuestions.{portLines}
+use Rattle.meaning.specs.Profile.{Profile, curve, server, profileOf, serverIn}
 use Rattle.meaning.specs.Computed.{behind}
-use Rattle.meaning.specs.Route.{firstFile, afterFirst, IsCurve, IsServer, dueLines, joinLines, joinedWith, hopLines, Figures, FiguresOf, Report, passed, refusedAt, Onward, ends, bytes-left, stops, hop, Reported, no-curve, from-curve, text, Route, routing, RouteOutcome}
+use Rattle.meaning.specs.Route.{firstFile, afterFirst, IsCurve, IsServer, dueLines, joinLines, hopLines, Figures, Report, passed, refusedAt, Onward, ends, bytes-left, stops, hop, Reported, no-curve, from-curve, text, Route, routing, RouteOutcome}
 use Rattle.meaning.proofs.outcome.Outcomes.{number-positive, Same, Single, UpTo, up-to-or, up-to-when, from-when, refused-first, refused-then}
 use Rattle.meaning.proofs.outcome.Stable.{decide-server}
-use Rattle.meaning.proofs.outcome.Demands.{port-up-to, server-up-to}
+use Rattle.meaning.proofs.outcome.Demands.{port-up-to}
 use Rattle.meaning.proofs.outcome.EveryInput.{Decided, decide-line, decide-or, decide-too-large, server-decided, port-decided, HasBytes, bytes-outcome}
-use Rattle.meaning.proofs.outcome.Bytes.{one-bytes}
+use Rattle.meaning.proofs.outcome.Bytes.{one-bytes, OnlyBytes, only-bytes}
 use Rattle.meaning.proofs.profile.Outcomes.{file-up-to}
 use Rattle.meaning.proofs.profile.Decided.{file-decided}
 use Rattle.meaning.proofs.server.HopByHop.{behind-unique}
@@ -193,3 +193,21 @@ pub one-route-outcome :
     → RouteOutcome input before after code count → RouteOutcome input before after′ code′ count′
     → Same code count code′ count′ after after′
 one-route-outcome input = one-bytes (single-route input)
+
+-- ---- The only text.
+
+-- An input's text: the program prints it and no other, and with a buffer lent nothing else comes of it.
+pub record OnlyText (input output : List ℕ) : Type 0 where
+  pub printed : Route input output
+  pub no-other : {other : List ℕ} → Route input other → other ≡ output
+  pub outcome : OnlyBytes (routing input) output
+
+-- what the program prints is such
+pub only-text : {input output : List ℕ} → Route input output → OnlyText input output
+unfolding routing
+only-text {input} route =
+    record {
+      printed = route;
+      no-other = λ other. one-route other route;
+      outcome = only-bytes (single-route input) (λ r h. h) route;
+    }

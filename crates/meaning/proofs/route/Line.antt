@@ -10,9 +10,9 @@ use Prim.Native.Nat.{ℕ, _+_, _^_, _≤_, _<_}
 use native.Mathlib.Decide.{ℕ-discrete}
 use native.Mathlib.Omega.{arith}
 use lib.ListN.{length, length-append}
-use Rattle.meaning.specs.Curve.{Bucket, curveOf, listOf, reads, NormalForm}
+use Rattle.meaning.specs.Curve.{Bucket, listOf, reads, NormalForm}
 use Rattle.meaning.specs.Server.{Server, join, Behind, Delay, last}
-use Rattle.meaning.specs.Refusal.{Refusal, LARGE, Clear, AllInRange, curveLines}
+use Rattle.meaning.specs.Refusal.{Refusal, LARGE, Clear, AllInRange}
 use Rattle.meaning.specs.ServerQuestions.{ServerInRange, portLines}
 use Rattle.meaning.specs.Computed.{behind}
 use Rattle.meaning.specs.Profile.{curve, server, profileOf, bucketsOf, serverIn}
