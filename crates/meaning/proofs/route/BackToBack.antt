@@ -101,7 +101,7 @@ module _ (input : List ℕ) where
             let size = first-length whole in
             let two : 1 < bytesTaken input = more-than-one-byte (editionOf input) (profileOf input) in
             let taken : bytesTaken input ≡ bytesTaken (firstFile input) =
-                ap bytesTaken first-after ∙ header-front (firstFile input) (afterFirst input) (omega arith)
+            ap bytesTaken first-after ∙ header-front (firstFile input) (afterFirst input) (omega arith)
             in
             let enough : bytesTaken (firstFile input) ≤ length (firstFile input) = omega arith in
             record {

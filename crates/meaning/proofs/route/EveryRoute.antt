@@ -93,8 +93,8 @@ module _ (f : List Bucket) (before : Option Server) (input : List ℕ) where
       with-behind : Clear operandLines → (g : List Bucket) → Behind f (serverIn (profileOf input)) g → Decided (hopLines f before input)
       with-behind clear g b =
           let large : Decided (LARGE when ((g : List Bucket) × Behind f (serverIn (profileOf input)) g × TooLarge g)) =
-              decide-line LARGE
-              (map-dec (λ big. (g, b, big)) (λ h. rw (behind-unique (h .1) b) at (h .2)) (decide-too-large g))
+          decide-line LARGE
+          (map-dec (λ big. (g, b, big)) (λ h. rw (behind-unique (h .1) b) at (h .2)) (decide-too-large g))
           in
           (large .0, refused-then (accepted clear refl) (large .1))
 

@@ -154,6 +154,18 @@ pub sofar-small : (first : List Bucket) (hops : List Figures) (before : Option S
 sofar-small first hops none f none-passed = rw (none-passed .1) tt
 sofar-small first hops (some joined) f t = t .small
 
+-- The servers joined so far, if there are any, are in range.
+abbrev pub JoinedInRange : Option Server → Type 0
+JoinedInRange none = Unit {0}
+JoinedInRange (some before) = ServerInRange before
+
+-- so they are
+pub sofar-in-range :
+    (first : List Bucket) (hops : List Figures) (before : Option Server) (f : List Bucket) → Sofar first hops before f
+    → JoinedInRange before
+sofar-in-range first hops none f none-passed = tt
+sofar-in-range first hops (some joined) f t = t .in-range
+
 -- A hop that is answered, with the hops before it:
 module _
     (hops : List Figures) {f g : List Bucket} {before : Option Server} {s : Server} {here : Figures} (short : length hops < 32)

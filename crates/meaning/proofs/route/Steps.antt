@@ -91,7 +91,7 @@ module _
           arith,
           ap length (go .printed-is),
           hop-texts-length (go .hops) (sofar-small (curveOf first) (go .hops) joined (curveOf f) (go .sofar))
-          (omega (arith, go .count-is, go .few)),
+              (omega (arith, go .count-is, go .few)),
         )
 
     -- bytes are left after 32 servers: the program ends
