@@ -120,15 +120,27 @@ unfoldable pub numbers : List ℕ → List ℕ
 numbers [] = []
 numbers (n ∷ l) = bytes " " ++ digits 20 n ++ numbers l
 
--- `hop N X Y`, a line for each hop from N on
-unfoldable pub hopLinesFrom : ℕ → List Figures → List ℕ
-hopLinesFrom n [] = []
-hopLinesFrom n (x ∷ l) = bytes "hop" ++ numbers (n ∷ x .backlog ∷ x .delay ∷ []) ++ bytes "\n" ++ hopLinesFrom (n + 1) l
+-- `hop N X Y`: hop number, backlog, delay there
+unfoldable pub hopText : ℕ → Figures → List ℕ
+hopText n x = bytes "hop" ++ numbers (n ∷ x .backlog ∷ x .delay ∷ []) ++ bytes "\n"
 
--- The hops, then `route X Y`; or one line only, `refused C at K`.
+-- `route X Y`
+unfoldable pub routeText : Figures → List ℕ
+routeText x = bytes "route" ++ numbers (x .backlog ∷ x .delay ∷ []) ++ bytes "\n"
+
+-- `refused C at K`
+unfoldable pub refusedText : ℕ → ℕ → List ℕ
+refusedText c k = bytes "refused" ++ numbers (c ∷ []) ++ bytes " at" ++ numbers (k ∷ []) ++ bytes "\n"
+
+-- A line for each hop, from number n on.
+unfoldable pub hopTexts : ℕ → List Figures → List ℕ
+hopTexts n [] = []
+hopTexts n (x ∷ l) = hopText n x ++ hopTexts (n + 1) l
+
+-- The hops, then the route; or the refusal's line only.
 unfoldable pub text : Report → List ℕ
-text (passed hops x) = hopLinesFrom 1 hops ++ bytes "route" ++ numbers (x .backlog ∷ x .delay ∷ []) ++ bytes "\n"
-text (refusedAt r k) = bytes "refused" ++ numbers (number r ∷ []) ++ bytes " at" ++ numbers (k ∷ []) ++ bytes "\n"
+text (passed hops x) = hopTexts 1 hops ++ routeText x
+text (refusedAt r k) = refusedText (number r) k
 
 -- The program's output.
 pub record Route (input output : List ℕ) : Type 0 where

@@ -126,7 +126,7 @@ pub record JoinRead (s next joined : Server) : Type 0 where
   pub convolution : (t : ℕ) → Convolution (served s) (served next) t (served joined t)
 
 -- where no line holds a figure is answered
-figure-clear :
+pub figure-clear :
     {lines : Lines} {Figure : ℕ → Type 0} {code figure : ℕ}
     → Clear lines → FigureOutcome lines Figure code figure → (code ≡ 0) × Figure figure
 figure-clear none (FigureOutcome.refused v) = absurd (refused-or-clear v none)

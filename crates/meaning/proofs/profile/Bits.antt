@@ -62,7 +62,7 @@ bits-below (suc w) c x =
     rw above (cc (quotient, mul-add-mod-self-left 2 c (x / 2 ^ w), bits-below w (2 * c) x))
 
 -- a number's bits spell it
-spelt-mod : (w x : ℕ) → spelt (bitsOf w x) ≡ x % 2 ^ w
+pub spelt-mod : (w x : ℕ) → spelt (bitsOf w x) ≡ x % 2 ^ w
 unfolding spelt bitsOf
 spelt-mod zero x = sym (mod-one x)
 spelt-mod (suc w) x =

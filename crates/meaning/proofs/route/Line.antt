@@ -10,21 +10,23 @@ use Prim.Native.Nat.{ℕ, _+_, _^_, _≤_, _<_}
 use native.Mathlib.Decide.{ℕ-discrete}
 use native.Mathlib.Omega.{arith}
 use lib.ListN.{length, length-append}
-use Rattle.meaning.specs.Curve.{Bucket, curveOf, listOf, reads, NormalForm}
+use Rattle.meaning.specs.Curve.{Bucket, listOf, reads, NormalForm}
 use Rattle.meaning.specs.Server.{Server, join, Behind, Delay, last}
-use Rattle.meaning.specs.Refusal.{Refusal, HEADER, LARGE, Clear, AllInRange, curveLines}
+use Rattle.meaning.specs.Refusal.{Refusal, LARGE, Clear, AllInRange}
 use Rattle.meaning.specs.ServerQuestions.{ServerInRange, portLines}
-use Rattle.meaning.specs.Profile.{Profile, curve, server, profileOf, bucketsOf, serverIn}
-use Rattle.meaning.specs.Route.{IsCurve, IsServer, afterFirst, joinLines, joinedWith, hopLines, Figures, FiguresOf, Report, passed, refusedAt, Onward, ends, bytes-left, stops, hop, Reported, no-curve, from-curve}
+use Rattle.meaning.specs.Computed.{behind}
+use Rattle.meaning.specs.Profile.{curve, server, profileOf, bucketsOf, serverIn}
+use Rattle.meaning.specs.Route.{afterFirst, joinLines, joinedWith, hopLines, Figures, FiguresOf, Report, passed, refusedAt, Onward, ends, bytes-left, stops, hop, Reported, no-curve, from-curve}
 use Rattle.meaning.proofs.Order.{not-above}
 use Rattle.meaning.proofs.Lists.{curve-list}
 use Rattle.meaning.proofs.server.Excess.{gap-unique, excess-bounded}
 use Rattle.meaning.proofs.server.Delay.{delay-of-nothing, delay-from-excess}
 use Rattle.meaning.proofs.server.HopByHop.{hop-by-hop, joined-delay}
 use Rattle.meaning.proofs.server.Joining.{smallest-unique, rounded-up-is, last-inside}
-use Rattle.meaning.proofs.server.Behind.{backlog-behind}
+use Rattle.meaning.proofs.server.Behind.{behind-is, backlog-behind}
 use Rattle.meaning.proofs.server.Sizes.{backlog-fits, delay-fits}
 use Rattle.meaning.proofs.outcome.Stable.{server-stable}
+use Rattle.meaning.proofs.route.BackToBack.{due-curve, due-server}
 use Rattle.meaning.proofs.outcome.Answers.{clear-form, clear-fits, fits-ranged}
 use Rattle.meaning.proofs.outcome.Demands.{port-curve, port-server, port-bounded}
 
@@ -81,22 +83,29 @@ join-ranged : (before : Option Server) (s : Server) → ServerInRange s → Clea
 join-ranged none s ranged clear = ranged
 join-ranged (some b) s ranged clear = server-stable (λ out. clear LARGE (inr (refl, (join b s, refl, out))))
 
--- so of a hop of which no line holds,
-pub passable : (f : List Bucket) (before : Option Server) (input : List ℕ) → Clear (hopLines f before input) → Passable f before (serverIn (profileOf input))
-passable f before input clear =
+-- where no line holds of the curve with the server, nor of the joining,
+pub passable :
+    (f : List Bucket) (before : Option Server) (s : Server) → Clear (portLines (listOf f) s) → Clear (joinLines before s)
+    → Passable f before s
+passable f before s port joins =
     record {
       form = rw curve-list at (clear-form (listOf f) (port-curve (listOf f) s port));
       ranged = rw curve-list at (fits-ranged (clear-fits (listOf f) (port-curve (listOf f) s port)));
       in-range = port-server (listOf f) s port;
       bounded = rw curve-list at (not-above (port-bounded (listOf f) s port));
-      joined-in-range = join-ranged before s (port-server (listOf f) s port) (λ r h. clear r (inl (inr h)));
+      joined-in-range = join-ranged before s (port-server (listOf f) s port) joins;
     }
-  where
-    s : Server
-    s = serverIn (profileOf input)
 
-    port : Clear (portLines (listOf f) s)
-    port r h = clear r (inl (inl (inr h)))
+-- so of a hop of which no line holds;
+pub hop-passable :
+    (f : List Bucket) (before : Option Server) (input : List ℕ) → Clear (hopLines f before input)
+    → Passable f before (serverIn (profileOf input))
+hop-passable f before input clear =
+    passable f before (serverIn (profileOf input)) (λ r h. clear r (inl (inl (inr h)))) (λ r h. clear r (inl (inr h)))
+
+-- a curve stands behind the server
+pub passable-behind : {f : List Bucket} {before : Option Server} {s : Server} → Passable f before s → Behind f s (behind f s)
+passable-behind {f} {s = s} known = behind-is f s (known .form) (known .bounded)
 
 -- where a curve stands behind a server, there are a backlog and a delay
 pub figures-exist : {f g : List Bucket} {s : Server} → 1 ≤ length f → 1 ≤ s .rate → Behind f s g → (x : Figures) × FiguresOf f s x
@@ -127,18 +136,35 @@ figures-small {f} {s = s} form ranged in-range b x =
 -- ---- The route line.
 
 -- Some hops are passed: the curve from the last of them stands behind their servers joined, over the first curve.
-record Through (first : List Bucket) (hops : List Figures) (joined : Server) (f : List Bucket) : Type 0 where
-  form : NormalForm first
-  ranged : AllInRange first
-  in-range : ServerInRange joined
-  stands : Behind first joined f
-  small : AllSmall hops
-  line : (route : Figures) → FiguresOf first joined route → RouteLine hops route
+pub record Through (first : List Bucket) (hops : List Figures) (joined : Server) (f : List Bucket) : Type 0 where
+  pub form : NormalForm first
+  pub ranged : AllInRange first
+  pub in-range : ServerInRange joined
+  pub stands : Behind first joined f
+  pub small : AllSmall hops
+  pub line : (route : Figures) → FiguresOf first joined route → RouteLine hops route
 
 -- No hop is passed, or some are.
-abbrev Sofar : List Bucket → List Figures → Option Server → List Bucket → Type 0
+abbrev pub Sofar : List Bucket → List Figures → Option Server → List Bucket → Type 0
 Sofar first hops none f = (f ≡ first) × (hops ≡ [])
 Sofar first hops (some joined) f = Through first hops joined f
+
+-- so far every figure is small
+pub sofar-small : (first : List Bucket) (hops : List Figures) (before : Option Server) (f : List Bucket) → Sofar first hops before f → AllSmall hops
+sofar-small first hops none f none-passed = rw (none-passed .1) tt
+sofar-small first hops (some joined) f t = t .small
+
+-- The servers joined so far, if there are any, are in range.
+abbrev pub JoinedInRange : Option Server → Type 0
+JoinedInRange none = Unit {0}
+JoinedInRange (some before) = ServerInRange before
+
+-- so they are
+pub sofar-in-range :
+    (first : List Bucket) (hops : List Figures) (before : Option Server) (f : List Bucket) → Sofar first hops before f
+    → JoinedInRange before
+sofar-in-range first hops none f none-passed = tt
+sofar-in-range first hops (some joined) f t = t .in-range
 
 -- A hop that is answered, with the hops before it:
 module _
@@ -179,7 +205,7 @@ module _
         }
 
 -- so it goes on from no hop, and from some
-through :
+pub through :
     (hops : List Figures) {f g : List Bucket} (before : Option Server) {s : Server} {here : Figures} {first : List Bucket} → length hops < 32
     → Passable f before s → FiguresOf f s here → Behind f s g → Sofar first hops before f
     → Through first (hops ++ here ∷ []) (joinedWith before s) g
@@ -208,7 +234,7 @@ onward-line (ends route x) t = t .line route x
 onward-line (bytes-left h more) t = tt
 onward-line (stops r h due w) t = tt
 onward-line (hop {hops = hops} {before = before} {f = f} {input = input} here g h due clear x b onward) t =
-    onward-line onward (through hops before h (passable f before input clear) x b t)
+    onward-line onward (through hops before h (hop-passable f before input clear) x b t)
 
 -- the route's backlog is the last hop's, and its delay at most the hops' delays added
 pub route-line : {input : List ℕ} {hops : List Figures} {route : Figures} → Reported input (passed hops route) → RouteLine hops route
@@ -245,16 +271,6 @@ pub record RouteOf (input : List ℕ) (hops : List Figures) (route : Figures) : 
   pub joined-is : allJoined none servers ≡ some joined
   pub route-is : FiguresOf first joined route
 
--- where a curve is due and there is none other, it is one,
-due-curve : (p : Profile) → ((IsCurve p → ⊥) → ⊥) → p ≡ curve (bucketsOf p)
-due-curve (curve f) h = refl
-due-curve (server s) h = absurd (h (λ x. x))
-
--- and so for a server
-due-server : (p : Profile) → ((IsServer p → ⊥) → ⊥) → p ≡ server (serverIn p)
-due-server (curve f) h = absurd (h (λ x. x))
-due-server (server s) h = refl
-
 -- From a place on: what comes after the hops so far.
 record RestOf (first : List Bucket) (hops : List Figures) (before : Option Server) (f : List Bucket) (input : List ℕ) (all : List Figures) (route : Figures) : Type 0 where
   servers : List Server
@@ -282,7 +298,7 @@ stands-hop {hops = hops} before f input {here} {g} clear x b (on rest) =
     (record {
       servers = serverIn (profileOf input) ∷ rest .servers;
       servers-are = (
-        due-server (profileOf input) (λ h. clear HEADER (inl (inl (inl (inl (refl, h)))))),
+        due-server input (λ r h. clear r (inl (inl (inl h)))),
         rest .servers-are,
       );
       more = here ∷ rest .more;
@@ -328,7 +344,7 @@ route-of {input} (from-curve clear onward) =
     let rest = rest-of (onward-stands onward) in
     record {
       first = bucketsOf (profileOf input);
-      first-is = due-curve (profileOf input) (λ h. clear HEADER (inl (refl, h)));
+      first-is = due-curve input clear;
       servers = rest .servers;
       servers-are = rest .servers-are;
       hops-are = subst (HopsOf (bucketsOf (profileOf input)) (rest .servers)) (sym (rest .all-are)) (rest .more-are);

@@ -1,22 +1,22 @@
 -- The text of a report: every number in it is below 2^64, so that it stands there as its decimal, and no text has more than
 -- 1,145 bytes: 32 hop lines, 9 of at most 34 bytes and 23 of at most 35, and a route line of at most 34.
 -- Assumes nothing.
-use mathlib.Core.Path.{_≡_, refl, _∙_, ap}
+use mathlib.Core.Path.{_≡_, refl, sym, _∙_, ap}
 use mathlib.Core.Logic.{inl, inr}
 use mathlib.Core.Option.{Option}
-use mathlib.Core.List.{List, [], _∷_, _++_}
-use Prim.Native.Nat.{ℕ, _+_, _-_, _*_, _^_, _≤_, _<_}
-use native.Mathlib.Nat.{lt-of-lt-of-le}
+use mathlib.Core.List.{List, [], _∷_, _++_, append-assoc, append-nil}
+use Prim.Native.Nat.{ℕ, suc, _+_, _-_, _*_, _^_, _≤_, _<_}
+use native.Mathlib.Nat.{lt-of-lt-of-le, add-zero}
 use native.Mathlib.Omega.{arith}
 use lib.Dec.{lit≤}
 use lib.ListN.{length, length-append}
 use Rattle.meaning.specs.Curve.{Bucket}
 use Rattle.meaning.specs.Server.{Server}
 use Rattle.meaning.specs.Refusal.{Refusal, HEADER, LENGTH, PAD, LIST, COUNT, RANGE, FORM, UNBOUNDED, LARGE, ROOM, number}
-use Rattle.meaning.specs.Route.{Figures, Report, passed, refusedAt, Onward, ends, bytes-left, stops, hop, Reported, no-curve, from-curve, bytes, digits, numbers, hopLinesFrom, text, Route}
+use Rattle.meaning.specs.Route.{Figures, Report, passed, refusedAt, Onward, ends, bytes-left, stops, hop, Reported, no-curve, from-curve, bytes, digits, numbers, hopText, routeText, refusedText, hopTexts, text, Route}
 use Rattle.meaning.proofs.Order.{le-or-lt}
 use Rattle.meaning.proofs.route.Decimal.{digits-length}
-use Rattle.meaning.proofs.route.Line.{Small, AllSmall, RouteLine, route-line}
+use Rattle.meaning.proofs.route.Line.{Small, AllSmall, route-line}
 
 -- ---- Which profile is refused.
 
@@ -79,58 +79,105 @@ figures-length x h =
       small-length (x .delay) (h .delay-small),
     )
 
--- a hop's line has 32 bytes at most beside its number
-hop-length :
-    (n : ℕ) (x : Figures) (l : List Figures) → Small x
-    → length (hopLinesFrom n (x ∷ l)) ≤ 33 + length (digits 20 n) + length (hopLinesFrom (n + 1) l)
-unfolding hopLinesFrom bytes
-hop-length n x l small =
+-- a hop's line has at most 33 bytes beside its number,
+hop-length : (n : ℕ) (x : Figures) → Small x → length (hopText n x) ≤ 33 + length (digits 20 n)
+unfolding hopText bytes
+hop-length n x small =
     simp length-append (omega (arith, numbers-length n (x .backlog ∷ x .delay ∷ []), figures-length x small))
 
--- so many hop lines, from number n on: 35 bytes each, and one less for each number of one digit
-hops-length :
-    (n : ℕ) (l : List Figures) → AllSmall l → n + length l ≤ 100
-    → length (hopLinesFrom n l) + (10 - n) ≤ 35 * length l + (10 - n - length l)
-unfolding hopLinesFrom
-hops-length n [] small h = omega arith
-hops-length n (x ∷ l) small h =
-    let rest = hops-length (n + 1) l (small .1) (omega arith) in
-    elim (le-or-lt 10 n) [
-      | inl two ↦ omega (arith, hop-length n x l (small .0), digits-length 20 n 2 (lit≤ tt) (omega arith))
-      | inr one ↦ omega (arith, hop-length n x l (small .0), digits-length 20 n 1 (lit≤ tt) (omega arith))
-    ]
+-- the route's at most 34,
+pub route-text-length : (x : Figures) → Small x → length (routeText x) ≤ 34
+unfolding routeText bytes
+route-text-length x small = simp length-append (omega (arith, figures-length x small))
 
--- the text of a route
-passed-length : (hops : List Figures) (route : Figures) → RouteLine hops route → length (text (passed hops route)) ≤ 1145
-unfolding text bytes
-passed-length hops route line =
+-- and that of a refusal at most 17
+pub refused-text-length : (c k : ℕ) → c < 100 → k < 100 → length (refusedText c k) ≤ 17
+unfolding refusedText bytes
+refused-text-length c k hc hk =
     simp length-append
     (omega (
       arith,
-      hops-length 1 hops (line .hops-small) (omega (arith, line .at-most)),
-      line .at-most,
-      figures-length route (line .route-small),
-    ))
-
--- the text of a refusal
-pub refused-length : (r : Refusal) (k : ℕ) → k ≤ 34 → length (text (refusedAt r k)) ≤ 17
-unfolding text bytes
-refused-length r k h =
-    simp length-append
-    (omega (
-      arith,
-      numbers-length (number r) [],
+      numbers-length c [],
       numbers-length k [],
       no-numbers,
-      digits-length 20 (number r) 2 (lit≤ tt) (omega (arith, number-most r)),
+      digits-length 20 c 2 (lit≤ tt) (omega arith),
       digits-length 20 k 2 (lit≤ tt) (omega arith),
     ))
 
+-- so many hop lines, from number n on, have 35 bytes each, and one less for each number of one digit
+hops-length :
+    (n : ℕ) (l : List Figures) → AllSmall l → n + length l ≤ 100
+    → length (hopTexts n l) + (10 - n) ≤ 35 * length l + (10 - n - length l)
+unfolding hopTexts
+hops-length n [] small h = omega arith
+hops-length n (x ∷ l) small h =
+    let rest = hops-length (n + 1) l (small .1) (omega arith) in
+    let both = length-append (hopText n x) (hopTexts (n + 1) l) in
+    elim (le-or-lt 10 n) [
+      | inl two ↦ omega (arith, hop-length n x (small .0), digits-length 20 n 2 (lit≤ tt) (omega arith))
+      | inr one ↦ omega (arith, hop-length n x (small .0), digits-length 20 n 1 (lit≤ tt) (omega arith))
+    ]
+
+-- those of a route at most 1,111
+pub hop-texts-length : (hops : List Figures) → AllSmall hops → length hops ≤ 32 → length (hopTexts 1 hops) ≤ 1111
+hop-texts-length hops small few = omega (arith, hops-length 1 hops small (omega arith))
+
 -- no text has more than 1,145 bytes
 text-length : {input : List ℕ} (report : Report) → Reported input report → length (text report) ≤ 1145
-text-length (passed hops route) h = passed-length hops route (route-line h)
-text-length (refusedAt r k) h = omega (arith, refused-length r k (refused-where h .1))
+unfolding text
+text-length (passed hops route) h =
+    let line = route-line h in
+    simp length-append
+    (omega (arith, hop-texts-length hops (line .hops-small) (line .at-most), route-text-length route (line .route-small)))
+text-length (refusedAt r k) h =
+    omega (arith, refused-text-length (number r) k (omega (arith, number-most r)) (omega (arith, refused-where h .1)))
 
 -- so no output has
 pub route-length : {input output : List ℕ} → Route input output → length output ≤ 1145
 route-length r = omega (arith, ap length (r .output-is), text-length (r .report) (r .reported))
+
+-- ---- Line by line.
+
+-- one hop more is one line more,
+pub hop-texts-more : (n : ℕ) (l : List Figures) (x : Figures) → hopTexts n (l ++ x ∷ []) ≡ hopTexts n l ++ hopText (n + length l) x
+unfolding hopTexts
+hop-texts-more n [] x = rw add-zero (append-nil (hopText n x))
+hop-texts-more n (y ∷ l) x =
+    let next : n + 1 + length l ≡ n + suc (length l) = omega arith in
+    ap (λ (t : List ℕ). hopText n y ++ t) (hop-texts-more (n + 1) l x ∙ ap (λ (m : ℕ). hopTexts (n + 1) l ++ hopText m x) next)
+    ∙ sym (append-assoc (hopText n y) (hopTexts (n + 1) l) (hopText (n + suc (length l)) x))
+
+-- a word and a space
+hop-word : bytes "hop " ≡ bytes "hop" ++ bytes " "
+unfolding bytes
+hop-word = refl
+
+route-word : bytes "route " ≡ bytes "route" ++ bytes " "
+unfolding bytes
+route-word = refl
+
+refused-word : bytes "refused " ≡ bytes "refused" ++ bytes " "
+unfolding bytes
+refused-word = refl
+
+at-word : bytes " at " ≡ bytes " at" ++ bytes " "
+unfolding bytes
+at-word = refl
+
+-- each line is its word and its numbers' decimals, a space between: a hop's line,
+pub hop-text-is :
+    (n : ℕ) (x : Figures)
+    → hopText n x ≡ bytes "hop " ++ digits 20 n ++ bytes " " ++ digits 20 (x .backlog) ++ bytes " " ++ digits 20 (x .delay) ++ bytes "\n"
+unfolding hopText numbers
+hop-text-is n x = rw hop-word (simp (append-assoc, append-nil))
+
+-- the route's,
+pub route-text-is :
+    (x : Figures) → routeText x ≡ bytes "route " ++ digits 20 (x .backlog) ++ bytes " " ++ digits 20 (x .delay) ++ bytes "\n"
+unfolding routeText numbers
+route-text-is x = rw route-word (simp (append-assoc, append-nil))
+
+-- and that of a refusal
+pub refused-text-is : (c k : ℕ) → refusedText c k ≡ bytes "refused " ++ digits 20 c ++ bytes " at " ++ digits 20 k ++ bytes "\n"
+unfolding refusedText numbers
+refused-text-is c k = rw (refused-word, at-word) (simp (append-assoc, append-nil))
