@@ -1,26 +1,24 @@
 -- Readings of the definitions, for a reader who has other words in mind. Normal form by positions: "every other bucket" is every
 -- bucket at another position. The value at tick 0 is the smallest burst. A server serves nothing up to its latency, and its rate
 -- by the tick from then on. A greatest gap is the greatest of the differences, each 0 where it would be negative. The crossing
--- numbered k is at the time (b_k - b_{k-1}) / (r_{k-1} - r_k). The byte counts of profile files, and that what is read is in range.
+-- numbered k is at the time (b_k - b_{k-1}) / (r_{k-1} - r_k). The byte counts of profile files.
 -- Assumes nothing.
 use mathlib.Core.Path.{_≡_, refl, sym, _∙_, ap}
 use mathlib.Core.Logic.{inl, inr, _↔_}
 use mathlib.Core.List.{List, [], _∷_, List·Memᴰ·head, List·Memᴰ·tail}
 use Prim.Native.Nat.{ℕ, suc, _+_, _-_, _*_, _≤_, _<_}
 use native.Mathlib.Nat.{le-of-lt}
-use native.Mathlib.Decide.{ℕ-discrete}
 use native.Mathlib.Omega.{arith}
 use lib.ListN.{length, getD}
 use Rattle.meaning.specs.Curve.{Bucket, _∈_, bucketAt, Falling, Useful, NormalForm, Crossing, reads, numbered}
 use Rattle.meaning.specs.Server.{Server, Instant, served, GreatestGap, Excess, Backlog}
-use Rattle.meaning.specs.Refusal.{AllInRange}
-use Rattle.meaning.specs.Profile.{written, curveKind, kindIn, profileOf, curve, bucketsOf}
+use Rattle.meaning.specs.Profile.{written, curve}
 use Rattle.meaning.proofs.Order.{le-or-lt, lt-or-eq-or-gt}
 use Rattle.meaning.proofs.Lists.{at-inside, falling-at}
 use Rattle.meaning.proofs.curve.Value.{same-rate, value-least, value-reached}
 use Rattle.meaning.proofs.curve.Neighbours.{meet, meet-at, below-rises}
 use Rattle.meaning.proofs.server.Joining.{served-past}
-use Rattle.meaning.proofs.profile.Files.{curve-bytes, held-curve, held-server, buckets-in-range}
+use Rattle.meaning.proofs.profile.Files.{curve-bytes}
 
 -- ---- Normal form: every other bucket is every bucket at another position.
 
@@ -237,11 +235,3 @@ module _ (ed : ℕ) (f : List Bucket) where
   -- and one of 64 has 482
   pub longest-bytes : length f ≡ 64 → length (written ed (curve f)) ≡ 482
   longest-bytes e = omega (arith, curve-bytes ed f)
-
--- the buckets that a file holds are in range
-pub read-in-range : (file : List ℕ) → AllInRange (bucketsOf (profileOf file))
-read-in-range file =
-    elim (ℕ-discrete (kindIn file) curveKind) [
-      | yes e ↦ rw (held-curve file e) (buckets-in-range file 14 _)
-      | no e ↦ rw (held-server file e) (λ k m. elim m [ ])
-    ]

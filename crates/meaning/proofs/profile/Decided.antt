@@ -1,5 +1,4 @@
--- Every line of a file and of a profile can be decided, each of a number up to 8; so reading and writing have an outcome for every
--- input.
+-- Every line of a file and of a profile can be decided; so reading and writing have an outcome for every input.
 -- Assumes nothing.
 use mathlib.Core.Path.{_≡_, refl}
 use mathlib.Core.Logic.{Dec·and, Dec·not}
@@ -7,21 +6,20 @@ use mathlib.Core.List.{List}
 use Prim.Native.Nat.{ℕ}
 use native.Mathlib.Decide.{decLe, ℕ-discrete, map-dec}
 use native.Mathlib.Omega.{arith}
-use lib.Dec.{lit≤}
 use lib.ListN.{length}
-use Rattle.meaning.specs.Refusal.{HEADER, LENGTH, PAD, RANGE, FORM, number, Lines, curveLines, part}
+use Rattle.meaning.specs.Refusal.{HEADER, LENGTH, PAD, RANGE, FORM, Lines, curveLines, Outcome, part, PartOutcome}
 use Rattle.meaning.specs.Curve.{curveOf}
 use Rattle.meaning.specs.Server.{Server, noServer}
 use Rattle.meaning.specs.ServerQuestions.{serverLines}
 use Rattle.meaning.specs.Profile.{spelt, edition, curveKind, serverKind, Profile, curve, server, kindOf, written, editionOf, kindIn, profileOf, bytesTaken, padding, profileLines, fileLines, bucketsOf, serverIn, reading, Reading, Told, ReadOutcome, ReadPartOutcome, writing}
-use Rattle.meaning.proofs.outcome.Outcomes.{UpTo, up-to-when, up-to-or}
+use Rattle.meaning.proofs.outcome.Outcomes.{UpTo}
 use Rattle.meaning.proofs.outcome.Answers.{curve-up-to}
 use Rattle.meaning.proofs.outcome.Stable.{decide-all-in-range, decide-normal}
 use Rattle.meaning.proofs.outcome.Demands.{server-up-to}
 use Rattle.meaning.proofs.outcome.EveryInput.{Decided, decide-line, decide-or, decide-either, curve-decided, server-decided, HasOutcome, HasBytes, part-outcome, curve-outcome, bytes-outcome}
 use Rattle.meaning.proofs.profile.Bits.{one-spelt, spelt-one}
 use Rattle.meaning.proofs.profile.Files.{binary-padding}
-use Rattle.meaning.proofs.profile.Outcomes.{single-reading, single-writing}
+use Rattle.meaning.proofs.profile.Outcomes.{single-reading, single-writing, file-up-to}
 
 -- the lines of a profile can be decided,
 pub profile-decided : (p : Profile) → Decided (profileLines p)
@@ -43,19 +41,6 @@ file-decided file =
     (map-dec (spelt-one (padding file) (binary-padding file)) one-spelt (decLe 1 (spelt (padding file))))))
     (profile-decided (profileOf file))
 
--- none of them is above UNBOUNDED: those of a profile,
-pub profile-up-to : (p : Profile) → UpTo 8 (profileLines p)
-unfolding number
-profile-up-to (curve f) = up-to-or (up-to-when RANGE (lit≤ tt)) (up-to-when FORM (lit≤ tt))
-profile-up-to (server s) = server-up-to s
-
--- and those of a file
-pub file-up-to : (file : List ℕ) → UpTo 8 (fileLines file)
-unfolding number
-file-up-to file =
-    up-to-or (up-to-or (up-to-or (up-to-when HEADER (lit≤ tt)) (up-to-when LENGTH (lit≤ tt))) (up-to-when PAD (lit≤ tt)))
-    (profile-up-to (profileOf file))
-
 -- ---- Outcomes.
 
 -- There is a reading, with the list or table after it.
@@ -65,17 +50,17 @@ pub record HasReading (ReadingOf : List ℕ → Reading → Type 0) : Type 0 whe
   pub outcome : ReadingOf after reading
 
 -- What the reader tells where it answers this code and count.
-told : (file : List ℕ) (code count : ℕ) → Dec (code ≡ 0) → (x : Reading) × (x .code ≡ code) × (x .count ≡ count) × Told file x
-told file code count (yes e) = (
+tells :
+    (file : List ℕ) (P : ℕ → ℕ → Type 0) (code count : ℕ) → P code count → Dec (code ≡ 0)
+    → (x : Reading) × P (x .code) (x .count) × Told file x
+tells file P code count h (yes e) = (
   record { code = code; kind = kindOf (profileOf file); count = count; server = serverIn (profileOf file) },
-  refl,
-  refl,
+  h,
   record { accepted = λ _. (refl, refl); refused = λ some. absurd (some e) },
 )
-told file code count (no n) = (
+tells file P code count h (no n) = (
   record { code = code; kind = 0; count = count; server = noServer },
-  refl,
-  refl,
+  h,
   record { accepted = λ e. absurd (n e); refused = λ _. (refl, refl) },
 )
 
@@ -91,23 +76,15 @@ module _ (file : List ℕ) where
   pub read-has-outcome : (before : List ℕ) → HasReading (ReadOutcome file before)
   read-has-outcome before =
       let o = list-read before in
-      let x = told file (o .code) (o .count) (ℕ-discrete (o .code) 0) in
-      record {
-        after = o .after;
-        reading = x .0;
-        outcome = record { list = rw (x .1, x .2) (o .outcome); told = x .3 };
-      }
+      let x = tells file (Outcome (reading file) before (o .after)) _ _ (o .outcome) (ℕ-discrete (o .code) 0) in
+      record { after = o .after; reading = x .0; outcome = record { list = x .1; told = x .2 } }
 
-  -- over every part of a table too,
+  -- over every part of a table too
   pub read-part-has-outcome : (at room : ℕ) (before : List ℕ) → HasReading (ReadPartOutcome file at room before)
   read-part-has-outcome at room before =
       let o = part-outcome (list-read (part at room before)) in
-      let x = told file (o .code) (o .count) (ℕ-discrete (o .code) 0) in
-      record {
-        after = o .after;
-        reading = x .0;
-        outcome = record { list = rw (x .1, x .2) (o .outcome); told = x .3 };
-      }
+      let x = tells file (PartOutcome (reading file) at room before (o .after)) _ _ (o .outcome) (ℕ-discrete (o .code) 0) in
+      record { after = o .after; reading = x .0; outcome = record { list = x .1; told = x .2 } }
 
 -- writing has over every buffer,
 write-outcome :

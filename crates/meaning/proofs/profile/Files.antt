@@ -5,14 +5,16 @@ use mathlib.Core.Logic.{_≢_}
 use mathlib.Core.List.{List, [], _∷_, _++_}
 use Prim.Native.Nat.{ℕ, zero, suc, _+_, _-_, _*_, _/_, _≤_, _<_}
 use native.Mathlib.Nat.{add-zero}
+use native.Mathlib.Decide.{ℕ-discrete}
 use native.Mathlib.Omega.{arith}
+use lib.Dec.{lit≤}
 use lib.ListN.{length, length-append, length-drop, length-replicate}
 use lib.Seq.{take-all}
 use borrow.Author.Tests.{eq-eqb, ne-eqb}
 use Rattle.meaning.specs.Curve.{Bucket}
 use Rattle.meaning.specs.Server.{Server}
 use Rattle.meaning.specs.Refusal.{AllInRange}
-use Rattle.meaning.specs.Profile.{spelt, packed, fileBits, curveKind, Profile, curve, server, bucketFields, fields, profileBits, byteCount, written, field, bucketsIn, editionOf, kindIn, profileOf, bytesTaken, padding}
+use Rattle.meaning.specs.Profile.{spelt, packed, fileBits, curveKind, Profile, curve, server, bucketFields, fields, profileBits, byteCount, written, field, bucketsIn, editionOf, kindIn, profileOf, bytesTaken, padding, bucketsOf}
 use Rattle.meaning.proofs.Lists.{cons-each}
 use Rattle.meaning.proofs.curve.Lowest.{same-bucket}
 use Rattle.meaning.proofs.server.Joining.{same-server}
@@ -158,6 +160,22 @@ module _ (file : List ℕ) where
       kindIn file ≢ curveKind → profileOf file ≡ server (record { rate = field file 8 20; latency = field file 28 20 })
   unfolding profileOf
   held-server e = rw (ne-eqb (kindIn file) curveKind e)
+
+  -- a file holds at most 64 buckets,
+  pub held-few : length (bucketsOf (profileOf file)) ≤ 64
+  held-few =
+      elim (ℕ-discrete (kindIn file) curveKind) [
+        | yes e ↦ rw (held-curve e) (omega (arith, length-buckets-in file 14 (field file 8 6 + 1), field-fits file 8 6))
+        | no e ↦ rw (held-server e) (lit≤ tt)
+      ]
+
+  -- and each is in range
+  pub read-in-range : AllInRange (bucketsOf (profileOf file))
+  read-in-range =
+      elim (ℕ-discrete (kindIn file) curveKind) [
+        | yes e ↦ rw (held-curve e) (buckets-in-range file 14 _)
+        | no e ↦ rw (held-server e) (λ k m. elim m [ ])
+      ]
 
   -- the fields that stand from the start of a file are those of the profile that it holds: a curve,
   pub standing-curve : (ed : ℕ) (f : List Bucket) → 1 ≤ length f → Stands file 0 (fields ed (curve f)) → profileOf file ≡ curve f

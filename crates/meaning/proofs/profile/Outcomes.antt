@@ -1,15 +1,25 @@
 -- Reading and writing profile files, in what a caller sees: the code, each figure, and the whole of the lent list, table or
 -- buffer. No other outcome is right.
 -- Assumes nothing.
-use mathlib.Core.Path.{_≡_, sym, _∙_}
+use mathlib.Core.Path.{_≡_, refl, sym, _∙_}
+use mathlib.Core.Logic.{inl, inr, _≢_}
 use mathlib.Core.List.{List}
-use Prim.Native.Nat.{ℕ}
+use Prim.Native.Nat.{ℕ, _≤_, _<_}
 use native.Mathlib.Decide.{ℕ-discrete}
-use Rattle.meaning.specs.Server.{Server}
-use Rattle.meaning.specs.Refusal.{Lines}
-use Rattle.meaning.specs.Profile.{Profile, reading, Reading, Told, ReadOutcome, ReadPartOutcome, writing, WriteCurveOutcome, WriteServerOutcome}
-use Rattle.meaning.proofs.outcome.Outcomes.{Same, Single, one-outcome, one-part-outcome}
+use native.Mathlib.Omega.{arith}
+use lib.Dec.{lit≤}
+use lib.ListN.{length}
+use Rattle.meaning.specs.Curve.{listOf}
+use Rattle.meaning.specs.Server.{Server, noServer}
+use Rattle.meaning.specs.Refusal.{HEADER, LENGTH, PAD, RANGE, FORM, number, Lines, Clear, Verdict, TooLarge, over, part}
+use Rattle.meaning.specs.Profile.{Profile, curve, server, kindOf, profileOf, profileLines, fileLines, bucketsOf, serverIn, reading, Reading, Told, ReadOutcome, ReadPartOutcome, writing, WriteCurveOutcome, WriteServerOutcome}
+use Rattle.meaning.proofs.Order.{le-or-lt}
+use Rattle.meaning.proofs.outcome.Outcomes.{Same, Single, one-outcome, one-part-outcome, UpTo, up-to-when, up-to-or, refuse, no-room, written-out}
+use Rattle.meaning.proofs.outcome.Answers.{code-zero, outcome-code}
+use Rattle.meaning.proofs.outcome.Slips.{refusal-keeps, refusal-keeps-table}
+use Rattle.meaning.proofs.outcome.Demands.{server-up-to}
 use Rattle.meaning.proofs.outcome.Bytes.{one-bytes}
+use Rattle.meaning.proofs.profile.Files.{held-few, read-in-range}
 
 -- ---- One outcome.
 
@@ -80,3 +90,132 @@ pub one-write-server :
     → WriteServerOutcome s before after code count → WriteServerOutcome s before after′ code′ count′
     → Same code count code′ count′ after after′
 one-write-server s = one-bytes (single-writing _ _)
+
+-- ---- The lines of a file and of a profile.
+
+-- none of them is above UNBOUNDED: those of a profile,
+profile-up-to : (p : Profile) → UpTo 8 (profileLines p)
+unfolding number
+profile-up-to (curve f) = up-to-or (up-to-when RANGE (lit≤ tt)) (up-to-when FORM (lit≤ tt))
+profile-up-to (server s) = server-up-to s
+
+-- and those of a file
+pub file-up-to : (file : List ℕ) → UpTo 8 (fileLines file)
+unfolding number
+file-up-to file =
+    up-to-or (up-to-or (up-to-or (up-to-when HEADER (lit≤ tt)) (up-to-when LENGTH (lit≤ tt))) (up-to-when PAD (lit≤ tt)))
+    (profile-up-to (profileOf file))
+
+-- ---- How a reading is come by.
+
+-- A profile that is read: code 0, its kind, its bucket count and its server.
+abbrev pub readAs : Profile → Reading
+readAs p = record { code = 0; kind = kindOf p; count = length (bucketsOf p); server = serverIn p }
+
+-- A file that is refused: the number, and 0 for the rest.
+abbrev pub refusedAs : ℕ → Reading
+refusedAs code = record { code = code; kind = 0; count = 0; server = noServer }
+
+told-refused : (file : List ℕ) {code : ℕ} → 1 ≤ code → Told file (refusedAs code)
+told-refused file some = record { accepted = λ e. absurd (omega arith); refused = λ _. (refl, refl) }
+
+module _ (file before : List ℕ) where
+  -- A line of the file holds.
+  pub read-refused : {code : ℕ} → 1 ≤ code → Verdict (fileLines file) code → ReadOutcome file before before (refusedAs code)
+  unfolding reading
+  read-refused some v =
+      record { list = refuse (reading file) before (file-up-to file) some v; told = told-refused file some }
+
+  module _ (clear : Clear (fileLines file)) where
+    -- what the file holds is never too large
+    held-fits : TooLarge (bucketsOf (profileOf file)) → ⊥
+    held-fits (inl many) = omega (arith, held-few file)
+    held-fits (inr out) = out (read-in-range file)
+
+    -- None holds, and the list has no room for the buckets.
+    pub read-short : length before < length (listOf (bucketsOf (profileOf file))) → ReadOutcome file before before (refusedAs 10)
+    unfolding reading
+    read-short short =
+        record {
+          list = no-room (reading file) before clear refl (single-reading file) held-fits short;
+          told = told-refused file (lit≤ tt);
+        }
+
+    -- It has, and they are written from its start.
+    pub read-answered :
+        length (listOf (bucketsOf (profileOf file))) ≤ length before
+        → ReadOutcome file before (over (listOf (bucketsOf (profileOf file))) before) (readAs (profileOf file))
+    unfolding reading
+    read-answered long =
+        record {
+          list = written-out (reading file) before clear refl (single-reading file) held-fits long;
+          told = record { accepted = λ _. (refl, refl); refused = λ some. absurd (some refl) };
+        }
+
+-- The only outcomes of reading a file: where the list has room, this profile, its buckets' numbers written from the list's start;
+-- where it has not, ROOM. (A server's has room in any list, and stays.)
+pub record OnlyRead (file : List ℕ) (p : Profile) : Type 0 where
+  pub with-room :
+      {before after : List ℕ} {x : Reading} → length (listOf (bucketsOf p)) ≤ length before → ReadOutcome file before after x
+      → SameReading x (readAs p) after (over (listOf (bucketsOf p)) before)
+  pub without-room :
+      {before after : List ℕ} {x : Reading} → length before < length (listOf (bucketsOf p)) → ReadOutcome file before after x
+      → SameReading x (refusedAs 10) after before
+
+-- a file of which no line holds has these
+pub only-read : (file : List ℕ) → Clear (fileLines file) → OnlyRead file (profileOf file)
+only-read file clear =
+    record {
+      with-room = λ {before} room o. one-read o (read-answered file before clear room);
+      without-room = λ {before} short o. one-read o (read-short file before clear short);
+    }
+
+-- a file of which one holds has its number, whatever list is lent
+pub only-refused :
+    {file before after : List ℕ} {x : Reading} {code : ℕ} → 1 ≤ code → Verdict (fileLines file) code → ReadOutcome file before after x
+    → SameReading x (refusedAs code) after before
+only-refused {file} {before} some v o = one-read o (read-refused file before some v)
+
+-- ---- What a reading says.
+
+-- What is read into a part of a table is read into the part.
+pub part-reads :
+    {file : List ℕ} {at room : ℕ} {before after : List ℕ} {x : Reading} → ReadPartOutcome file at room before after x
+    → ReadOutcome file (part at room before) (part at room after) x
+part-reads o = record { list = o .list .inside; told = o .told }
+
+-- a refusal tells nothing, and the lent list stays,
+pub refusal-keeps-read :
+    {file before after : List ℕ} {x : Reading} → ReadOutcome file before after x → x .code ≢ 0
+    → SameReading x (refusedAs (x .code)) after before
+refusal-keeps-read o some =
+    let kept = refusal-keeps (o .list) some in
+    let told = o .told .refused some in
+    record { code-same = refl; kind-same = told .0; count-same = kept .1; server-same = told .1; after-same = kept .0 }
+
+-- and so does the whole table
+pub refusal-keeps-read-part :
+    {file : List ℕ} {at room : ℕ} {before after : List ℕ} {x : Reading} → ReadPartOutcome file at room before after x
+    → x .code ≢ 0 → SameReading x (refusedAs (x .code)) after before
+refusal-keeps-read-part o some =
+    let kept = refusal-keeps-table (o .list) some in
+    let told = o .told .refused some in
+    record { code-same = refl; kind-same = told .0; count-same = kept .1; server-same = told .1; after-same = kept .0 }
+
+-- A file that is read: no line holds of it, the list has room, and what the reader tells and writes is the profile's.
+pub record Read (file before after : List ℕ) (x : Reading) : Type 0 where
+  pub clear : Clear (fileLines file)
+  pub room : length (listOf (bucketsOf (profileOf file))) ≤ length before
+  pub told : SameReading x (readAs (profileOf file)) after (over (listOf (bucketsOf (profileOf file))) before)
+
+-- code 0 is such
+pub read-file : {file before after : List ℕ} {x : Reading} → ReadOutcome file before after x → x .code ≡ 0 → Read file before after x
+unfolding reading
+read-file {file} {before} {after} {x} o none =
+    elim (le-or-lt (length (listOf (bucketsOf (profileOf file)))) (length before)) [
+      | inl room ↦ record { clear = clear; room = room; told = only-read file clear .with-room room o }
+      | inr short ↦ absurd (omega (arith, only-read file clear .without-room short o .code-same))
+    ]
+  where
+    clear : Clear (fileLines file)
+    clear r h = code-zero (outcome-code (o .list)) .0 none r (inl h)
