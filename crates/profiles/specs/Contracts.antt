@@ -1,0 +1,17 @@
+-- What the contracts of this crate's own functions cite, beside the definitions of the crate meaning.
+-- Assumes nothing.
+use mathlib.Core.Path.{_≡_}
+use mathlib.Core.List.{List}
+use Prim.Native.Nat.{ℕ, _+_, _*_, _≤_, _<_}
+use lib.ListN.{length}
+
+-- A field of at most 40 bits that lies in a file, and not further on than 4096 bits.
+pub record InFile (file : List ℕ) (at width : ℕ) : Type 0 where
+  pub inside : at + width ≤ 8 * length file
+  pub near : at ≤ 4096
+  pub narrow : width ≤ 40
+
+-- A byte as a number.
+pub record Widened (byte number : ℕ) : Type 0 where
+  pub is : number ≡ byte
+  pub small : number < 256
