@@ -1,1 +1,3 @@
+-- The laws that the proofs of this crate's functions cite.
 pub mod Taking
+pub mod Header

@@ -4,6 +4,7 @@ use mathlib.Core.Path.{_≡_}
 use mathlib.Core.List.{List}
 use Prim.Native.Nat.{ℕ, _+_, _*_, _≤_, _<_}
 use lib.ListN.{length}
+use Rattle.meaning.specs.Profile.{field}
 
 -- A field of at most 40 bits that lies in a file, and not further on than 4096 bits.
 pub record InFile (file : List ℕ) (at width : ℕ) : Type 0 where
@@ -15,3 +16,7 @@ pub record InFile (file : List ℕ) (at width : ℕ) : Type 0 where
 pub record Widened (byte number : ℕ) : Type 0 where
   pub is : number ≡ byte
   pub small : number < 256
+
+-- How many buckets a curve's file has, by its count.
+unfoldable pub countIn : List ℕ → ℕ
+countIn file = field file 8 6 + 1
