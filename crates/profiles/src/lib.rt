@@ -1,5 +1,6 @@
 // The store's profile file, read and written: fields packed bit after bit, most significant bit first.
 mod bits;
+mod frame;
 
 ghost use mathlib.Core.Path.{_≡_};
 ghost use Rattle.meaning.specs.Profile.{kindIn, bytesTaken};
