@@ -14,8 +14,8 @@ use Rattle.meaning.specs.Profile.{spelt, fileBits, edition, curveKind, serverKi
 use Rattle.meaning.proofs.outcome.Outcomes.{from-when, from-or, up-to-when, up-to-or, line-hit, line-miss, refused-first, refused-then}
 use Rattle.meaning.proofs.profile.Bits.{one-spelt, spelt-one, length-file-bits}
 use Rattle.meaning.proofs.profile.Files.{curve-bits, server-bits, more-than-one-byte, length-buckets-in, held-curve, held-server, binary-padding, padding-field}
-use Rattle.profiles.specs.Contracts.{InFile, countIn, headerLine, frameLines}
-use Rattle.profiles.proofs.Header.{count-few, taken-by-curve}
+use Rattle.profiles.specs.Contracts.{InFile, countIn, Counts, headerLine, frameLines}
+use Rattle.profiles.proofs.Header.{taken-by-curve}
 
 -- ---- HEADER.
 
@@ -80,18 +80,18 @@ module _ (file : List ℕ) (whole : length file ≡ bytesTaken file) {kind : ℕ
       rw (held-server file (λ h. other (k ∙ h))) (server-bits (editionOf file) _) in
       sym (ap spelt (drop-of-length-le (fileBits file) {i = length (profileBits (editionOf file) (profileOf file))} (omega (arith, length-file-bits file))))
 
-  module _ (is : kind ≡ 1) {n : ℕ} (count : n ≡ countIn file) where
+  module _ (is : kind ≡ 1) {n : ℕ} (count : Counts file n) where
     size : length file ≡ (60 * n + 21) / 8
     size = whole ∙ sym (taken-by-curve file k is count)
 
     pub padding-bits-fit : Fits w64 (60 * n)
-    padding-bits-fit = record { fits = omega (arith, count-few file count) }
+    padding-bits-fit = record { fits = omega (arith, count .few) }
 
     pub padding-start-fits : Fits w64 (14 + 60 * n)
-    padding-start-fits = record { fits = omega (arith, count-few file count) }
+    padding-start-fits = record { fits = omega (arith, count .few) }
 
     pub padding-end-fits : Fits w64 (8 * length file)
-    padding-end-fits = record { fits = omega (arith, count-few file count, size) }
+    padding-end-fits = record { fits = omega (arith, count .few, size) }
 
     pub padding-some : 14 + 60 * n ≤ 8 * length file
     padding-some = omega (arith, size)
@@ -100,7 +100,7 @@ module _ (file : List ℕ) (whole : length file ≡ bytesTaken file) {kind : ℕ
     padding-inside =
         record {
           inside = omega (arith, padding-some);
-          near = omega (arith, count-few file count);
+          near = omega (arith, count .few);
           narrow = omega (arith, size);
         }
 
@@ -113,7 +113,7 @@ module _ (file : List ℕ) (whole : length file ≡ bytesTaken file) {kind : ℕ
         bits =
             rw (held-curve file (sym k ∙ is))
             (curve-bits (editionOf file) (bucketsIn file 14 (field file 8 6 + 1))
-            ∙ omega (arith, length-buckets-in file 14 (field file 8 6 + 1), count))
+            ∙ omega (arith, length-buckets-in file 14 (field file 8 6 + 1), count .is))
 
 pub ruleset pads =
     (no-padding, padding-bits-fit, padding-start-fits, padding-end-fits, padding-some, padding-inside, padding-read)
@@ -123,7 +123,7 @@ pub ruleset pads =
 module _ (file : List ℕ) {code : ℕ} (v : Verdict (headerLine file) code) where
   -- the header is refused
   pub frame-header : (code ≡ 0 → ⊥) → Verdict (frameLines file) code
-  unfolding number
+  unfolding number frameLines
   frame-header some =
       refused-first {n = 2} (up-to-or (up-to-when HEADER (lit≤ tt)) (up-to-when LENGTH (lit≤ tt))) (from-when PAD (lit≤ tt)) (omega (arith, some))
       (refused-first {n = 1} (up-to-when HEADER (lit≤ tt)) (from-when LENGTH (lit≤ tt)) (omega (arith, some)) v)
@@ -134,7 +134,7 @@ module _ (file : List ℕ) {code : ℕ} (v : Verdict (headerLine file) code) whe
 
     -- the byte count is another
     pub frame-length : (length file ≡ taken → ⊥) → Verdict (frameLines file) 2
-    unfolding number
+    unfolding number frameLines
     frame-length other =
         refused-first {n = 2} (up-to-or (up-to-when HEADER (lit≤ tt)) (up-to-when LENGTH (lit≤ tt))) (from-when PAD (lit≤ tt)) (lit≤ tt)
         (refused-then header-right (line-hit LENGTH (inl (λ h. other (h ∙ sym t)))))
@@ -151,13 +151,14 @@ module _ (file : List ℕ) {code : ℕ} (v : Verdict (headerLine file) code) whe
       module _ {bits : ℕ} (p : bits ≡ spelt (padding file)) where
         -- a padding bit is 1
         pub frame-pad : (bits ≡ 0 → ⊥) → Verdict (frameLines file) 3
-        unfolding number
+        unfolding number frameLines
         frame-pad some =
             refused-then (refused-then header-right (line-miss length-right))
             (line-hit PAD (spelt-one (padding file) (binary-padding file) (omega (arith, some, p))))
 
         -- no line holds
         pub frame-right : bits ≡ 0 → Verdict (frameLines file) 0
+        unfolding frameLines
         frame-right none =
             refused-then (refused-then header-right (line-miss length-right))
             (line-miss (λ m. omega (arith, one-spelt m, p, none)))

@@ -13,7 +13,7 @@ use Rattle.meaning.specs.Profile.{spelt, fileBits, field, curve, byteCount, buc
 use Rattle.meaning.proofs.profile.Bits.{length-file-bits}
 use Rattle.meaning.proofs.profile.Fields.{field-fits}
 use Rattle.meaning.proofs.profile.Files.{curve-bits, server-bits, length-buckets-in, held-curve, held-server}
-use Rattle.profiles.specs.Contracts.{InFile, countIn}
+use Rattle.profiles.specs.Contracts.{InFile, countIn, Counts}
 
 -- a field past the file's end is 0
 field-none : (file : List ℕ) (at w : ℕ) → 8 * length file ≤ at → field file at w ≡ 0
@@ -38,9 +38,13 @@ module _ (file : List ℕ) where
 
   -- ---- The count.
 
-  pub count-none : length file < 2 → 1 ≡ countIn file
+  counted : {n : ℕ} → n ≡ countIn file → Counts file n
   unfolding countIn
-  count-none h = omega (arith, field-none file 8 6 (omega arith))
+  counted e = record { is = e; few = omega (arith, field-fits file 8 6) }
+
+  pub count-none : length file < 2 → Counts file 1
+  unfolding countIn
+  count-none h = counted (omega (arith, field-none file 8 6 (omega arith)))
 
   pub count-inside : 2 ≤ length file → InFile file 8 6
   count-inside some = record { inside = omega arith; near = lit≤ tt; narrow = lit≤ tt }
@@ -48,19 +52,9 @@ module _ (file : List ℕ) where
   pub count-small : {n : ℕ} → n ≡ field file 8 6 → Fits w64 (n + 1)
   count-small e = record { fits = omega (arith, field-fits file 8 6) }
 
-  pub count-read : {n : ℕ} → n ≡ field file 8 6 → n + 1 ≡ countIn file
+  pub count-read : {n : ℕ} → n ≡ field file 8 6 → Counts file (n + 1)
   unfolding countIn
-  count-read e = ap (λ (x : ℕ). x + 1) e
-
-  pub count-few : {n : ℕ} → n ≡ countIn file → n ≤ 64
-  unfolding countIn
-  count-few e = omega (arith, field-fits file 8 6)
-
-  pub count-bits-fit : {n : ℕ} → n ≡ countIn file → Fits w64 (60 * n)
-  count-bits-fit e = record { fits = omega (arith, count-few e) }
-
-  pub count-sum-fits : {n : ℕ} → n ≡ countIn file → Fits w64 (60 * n + 21)
-  count-sum-fits e = record { fits = omega (arith, count-few e) }
+  count-read e = counted (ap (λ (x : ℕ). x + 1) e)
 
   -- ---- The bytes taken.
 
@@ -70,7 +64,7 @@ module _ (file : List ℕ) where
       rw (held-server file (λ h. other (e ∙ h)))
       (omega (arith, server-bits (editionOf file) (record { rate = field file 8 20; latency = field file 28 20 })))
 
-  pub taken-by-curve : {k n : ℕ} → k ≡ kindIn file → k ≡ 1 → n ≡ countIn file → (60 * n + 21) / 8 ≡ bytesTaken file
+  pub taken-by-curve : {k n : ℕ} → k ≡ kindIn file → k ≡ 1 → Counts file n → (60 * n + 21) / 8 ≡ bytesTaken file
   unfolding bytesTaken byteCount countIn
   taken-by-curve e is count =
       rw (held-curve file (sym e ∙ is))
@@ -78,8 +72,8 @@ module _ (file : List ℕ) where
         arith,
         curve-bits (editionOf file) (bucketsIn file 14 (field file 8 6 + 1)),
         length-buckets-in file 14 (field file 8 6 + 1),
-        count,
+        count .is,
       ))
 
 pub ruleset heading =
-    (kind-none, kind-inside, kind-read, count-none, count-inside, count-small, count-read, count-bits-fit, count-sum-fits, taken-by-server, taken-by-curve)
+    (kind-none, kind-inside, kind-read, count-none, count-inside, count-small, count-read, taken-by-server, taken-by-curve)

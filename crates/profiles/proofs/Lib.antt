@@ -2,3 +2,5 @@
 pub mod Taking
 pub mod Header
 pub mod Framing
+pub mod Decoding
+pub mod Readings

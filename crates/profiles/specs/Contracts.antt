@@ -4,9 +4,13 @@ use mathlib.Core.Path.{_≡_}
 use mathlib.Core.Logic.{_⊎_, _≢_}
 use mathlib.Core.List.{List, List·Memᴰ}
 use Prim.Native.Nat.{ℕ, _+_, _*_, _≤_, _<_}
-use lib.ListN.{length}
-use Rattle.meaning.specs.Refusal.{HEADER, LENGTH, PAD, Lines, _when_, _or_}
-use Rattle.meaning.specs.Profile.{edition, curveKind, serverKind, field, editionOf, kindIn, bytesTaken, padding}
+use lib.ListN.{length, take}
+use Rattle.meaning.specs.Curve.{flat}
+use Rattle.meaning.specs.Server.{noServer}
+use Rattle.meaning.specs.Refusal.{HEADER, LENGTH, PAD, Lines, _when_, _or_, Clear}
+use Rattle.meaning.specs.Profile.{edition, curveKind, serverKind, field, bucketsIn, editionOf, kindIn, bytesTaken, padding, Reading, ReadPartOutcome}
+use Rattle.servers.specs.Contracts.{serverOf}
+use Rattle.profiles.specs.declared.Profile as held-profile
 
 -- ---- A field.
 
@@ -27,14 +31,52 @@ pub record Widened (byte number : ℕ) : Type 0 where
 unfoldable pub countIn : List ℕ → ℕ
 countIn file = field file 8 6 + 1
 
+-- It is that number, at most 64.
+pub record Counts (file : List ℕ) (count : ℕ) : Type 0 where
+  pub is : count ≡ countIn file
+  pub few : count ≤ 64
+
 -- The first line of a file.
 abbrev pub headerLine : List ℕ → Lines
 headerLine file =
     HEADER when ((length file ≡ 0) ⊎ (editionOf file ≢ edition) ⊎ ((kindIn file ≢ curveKind) × (kindIn file ≢ serverKind)))
 
 -- Its first three lines, before those of the profile that it holds.
-abbrev pub frameLines : List ℕ → Lines
+unfoldable pub frameLines : List ℕ → Lines
 frameLines file =
     headerLine file
     or LENGTH when ((length file ≢ bytesTaken file) ⊎ ((kindIn file ≡ curveKind) × (length file ≡ 1)))
     or PAD when List·Memᴰ 1 (padding file)
+
+-- ---- Reading.
+
+-- What code holds as a reading.
+abbrev pub readingOf : held-profile.Profile → Reading
+readingOf x = record { code = x .code; kind = x .kind; count = x .count; server = serverOf (x .server) }
+
+-- A refusal with its number: 0 for the rest.
+abbrev pub refusedReading : ℕ → Reading
+refusedReading code = record { code = code; kind = 0; count = 0; server = noServer }
+
+-- None of the first three lines holds of a server's file,
+pub record ServerFile (file : List ℕ) : Type 0 where
+  pub clear : Clear (frameLines file)
+  pub kind : kindIn file ≢ curveKind
+
+-- and none of a curve's.
+pub record CurveFile (file : List ℕ) : Type 0 where
+  pub clear : Clear (frameLines file)
+  pub kind : kindIn file ≡ curveKind
+
+-- So many buckets lie in a file.
+pub record Holds (file : List ℕ) (count : ℕ) : Type 0 where
+  pub inside : 14 + 60 * count ≤ 8 * length file
+  pub few : count ≤ 64
+
+-- The numbers of so many buckets of a file stand at the start of a list.
+pub record Decoded (file : List ℕ) (count : ℕ) (pairs : List ℕ) : Type 0 where
+  pub is : take (2 * count) pairs ≡ flat (bucketsIn file 14 count)
+
+-- A file is read, and every list that is lent stays.
+pub record ReadAlone (file : List ℕ) (x : held-profile.Profile) : Type 0 where
+  pub outcome : (at room : ℕ) (table : List ℕ) → ReadPartOutcome file at room table table (readingOf x)
