@@ -4,7 +4,6 @@ mod frame;
 mod reader;
 
 use servers::Server;
-
 ghost use mathlib.Core.Path.{_≡_};
 ghost use lib.ListN.{length};
 ghost use Rattle.meaning.specs.Profile.{kindIn, bytesTaken, ReadOutcome, ReadPartOutcome};
@@ -62,7 +61,10 @@ fn refused(code: u64) -> Profile
         code,
         kind: 0,
         count: 0,
-        server: Server { rate: 0, latency: 0 },
+        server: Server {
+            rate: 0,
+            latency: 0,
+        },
     }
 }
 

@@ -1,9 +1,9 @@
 // The profile in a file whose frame is right: a server, or a curve that is decoded into local memory, tested, and only then handed
 // over.
-use servers::Server;
-use settle::deliver;
 use crate::Profile;
 use crate::bits;
+use servers::Server;
+use settle::deliver;
 ghost use mathlib.Core.Path.{_≡_};
 ghost use lib.ListN.{length};
 ghost use Rattle.meaning.specs.Profile.{ReadPartOutcome};
@@ -65,6 +65,9 @@ pub(crate) fn curve(file: &[u8], table: &mut [u64], at: usize, room: usize) -> P
         code: 0,
         kind: crate::CURVE,
         count: answer.count,
-        server: Server { rate: 0, latency: 0 },
+        server: Server {
+            rate: 0,
+            latency: 0,
+        },
     }
 }
