@@ -1,0 +1,6 @@
+-- The laws that the proofs of this crate's functions cite.
+pub mod Taking
+pub mod Header
+pub mod Framing
+pub mod Decoding
+pub mod Readings

@@ -1,0 +1,258 @@
+-- What comes of reading a file: refused for its frame, or a server, or a curve whose buckets were decoded and are handed over.
+-- Assumes nothing.
+use mathlib.Core.Path.{_≡_, refl, sym, _∙_, ap, subst}
+use mathlib.Core.Logic.{inl, inr, _≢_}
+use mathlib.Core.List.{List, []}
+use Prim.Native.Nat.{ℕ, _+_, _*_, _%_, _≤_, _<_}
+use native.Mathlib.Omega.{arith}
+use lib.Dec.{lit≤}
+use lib.ListN.{length, take}
+use Rattle.meaning.specs.Curve.{Bucket, buckets, flat, curveOf, listOf, NormalForm}
+use Rattle.meaning.specs.Server.{Server, noServer}
+use Rattle.meaning.specs.ServerQuestions.{serverLines}
+use Rattle.meaning.specs.Refusal.{Refusal, HEADER, LENGTH, PAD, RANGE, FORM, number, Lines, _when_, _or_, Clear, Verdict, accepted, rejected, AllInRange, Uneven, curveLines, over, part, PartOutcome}
+use Rattle.meaning.specs.Profile.{curveKind, Profile, curve, server, field, bucketsIn, kindIn, profileOf, bytesTaken, profileLines, fileLines, reading, Reading, ReadOutcome, ReadPartOutcome}
+use Rattle.meaning.proofs.Order.{not-apart}
+use Rattle.meaning.proofs.Lists.{flat-length, buckets-flat}
+use Rattle.meaning.proofs.outcome.Outcomes.{From, from-when, from-or, up-to-when, up-to-or, clear-or, refused-first, refused-then, three-parts, refuse-in-part, asked-so-in-part, whole-list}
+use Rattle.meaning.proofs.outcome.Slips.{refusal-keeps-table}
+use Rattle.meaning.proofs.profile.Files.{length-buckets-in, buckets-in-range, held-curve, held-server}
+use Rattle.meaning.proofs.profile.Outcomes.{file-up-to, read-refused, read-answered}
+use Rattle.checks.proofs.Checks.{passed}
+use Rattle.settle.specs.Contracts.{delivering}
+use Rattle.settle.proofs.Delivering.{delivery-clear}
+use Rattle.servers.specs.Contracts.{serverOf}
+use Rattle.servers.proofs.Joins.{port}
+use Rattle.profiles.specs.declared.Profile as held-profile
+use Rattle.profiles.specs.Contracts.{InFile, countIn, Counts, frameLines, readingOf, refusedReading, ServerFile, CurveFile, Holds, Decoded, ReadAlone}
+use Rattle.profiles.proofs.Header.{taken-by-curve, taken-by-server}
+
+-- ---- Refusals.
+
+-- the same lines have the same verdict
+same-verdict :
+    {a b : Lines} → ((r : Refusal) → a r → b r) → ((r : Refusal) → b r → a r) → {code : ℕ} → Verdict a code → Verdict b code
+same-verdict to back (accepted clear e) = accepted (λ r h. clear r (back r h)) e
+same-verdict to back (rejected r w e) =
+    rejected r (record { holds = to r (w .holds); smallest = λ s h. w .smallest s (back s h) }) e
+
+-- the lines of a profile come after those of the frame
+profile-from : (p : Profile) → From 3 (profileLines p)
+unfolding number
+profile-from (curve f) = from-or (from-when RANGE (lit≤ tt)) (from-when FORM (lit≤ tt))
+profile-from (server s) = from-when RANGE (lit≤ tt)
+
+-- a line of the file holds: the table stays
+refused-file :
+    (file : List ℕ) {at room : ℕ} {table : List ℕ} {code : ℕ} → 1 ≤ code → Verdict (fileLines file) code
+    → ReadPartOutcome file at room table table (refusedReading code)
+unfolding reading
+refused-file file {at} {room} {table} some v =
+    record {
+      list = refuse-in-part (reading file) at room table (file-up-to file) some v;
+      told = read-refused file [] some v .told;
+    }
+
+-- the frame is refused
+pub frame-refused :
+    (file : List ℕ) {at room : ℕ} {table : List ℕ} {code : ℕ} {x : Reading} → Verdict (frameLines file) code → (code ≡ 0 → ⊥)
+    → x ≡ refusedReading code → ReadPartOutcome file at room table table x
+unfolding number frameLines
+frame-refused file v some e =
+    rw e
+    (refused-file file (omega (arith, some))
+    (refused-first {n = 3}
+    (up-to-or (up-to-or (up-to-when HEADER (lit≤ tt)) (up-to-when LENGTH (lit≤ tt))) (up-to-when PAD (lit≤ tt)))
+    (profile-from (profileOf file)) (omega (arith, some)) v))
+
+-- it is not
+module _ (file : List ℕ) {code : ℕ} (v : Verdict (frameLines file) code) (right : code ≡ 0) {kind : ℕ} (k : kind ≡ kindIn file) where
+  pub framed-server : (kind ≡ 1 → ⊥) → ServerFile file
+  framed-server other = record { clear = passed v right; kind = λ h. other (k ∙ h) }
+
+  pub framed-curve : kind ≡ 1 → CurveFile file
+  framed-curve is = record { clear = passed v right; kind = sym k ∙ is }
+
+module _ (file : List ℕ) (frame : Clear (frameLines file)) where
+  -- what the profile is refused with is the file's refusal
+  profile-verdict : {code : ℕ} → Verdict (profileLines (profileOf file)) code → Verdict (fileLines file) code
+  unfolding frameLines
+  profile-verdict v = refused-then (accepted frame refl) v
+
+  profile-clear : Clear (profileLines (profileOf file)) → Clear (fileLines file)
+  unfolding frameLines
+  profile-clear clear = clear-or frame clear
+
+  -- the byte count is the one required
+  whole : length file ≡ bytesTaken file
+  unfolding frameLines
+  whole = not-apart (λ h. frame LENGTH (inl (inr (refl, inl h))))
+
+-- ---- A server.
+
+-- what is read with no list is read beside every list
+beside :
+    {file : List ℕ} {x : Reading} → ((before : List ℕ) → ReadOutcome file before before x)
+    → (at room : ℕ) (table : List ℕ) → ReadPartOutcome file at room table table x
+beside o at room table =
+    let v = o (part at room table) in
+    record { list = record { inside = v .list; outside = three-parts at room table }; told = v .told }
+
+module _ {file : List ℕ} (w : ServerFile file) where
+  six-bytes : length file ≡ 6
+  six-bytes = whole file (w .clear) ∙ sym (taken-by-server file refl (w .kind))
+
+  -- the rate and the latency lie in the file
+  pub server-rate-inside : InFile file 8 20
+  server-rate-inside = record { inside = omega (arith, six-bytes); near = lit≤ tt; narrow = lit≤ tt }
+
+  pub server-latency-inside : InFile file 28 20
+  server-latency-inside = record { inside = omega (arith, six-bytes); near = lit≤ tt; narrow = lit≤ tt }
+
+  module _
+      {rate latency : ℕ} (r : rate ≡ field file 8 20) (l : latency ≡ field file 28 20) {code : ℕ}
+      (v : Verdict (serverLines (port rate latency)) code)
+    where
+      holds-server : profileOf file ≡ server (port rate latency)
+      holds-server = held-server file (w .kind) ∙ cc (r, l)
+
+      -- it is out of range
+      pub server-file-refused : {x : held-profile.Profile} → (code ≡ 0 → ⊥) → readingOf x ≡ refusedReading code → ReadAlone file x
+      server-file-refused some e =
+          record {
+            outcome = λ at room table.
+                rw e (refused-file file (omega (arith, some)) (profile-verdict file (w .clear) (rw holds-server v)));
+          }
+
+      -- it is read
+      pub server-file-read :
+          {x : held-profile.Profile}
+          → code ≡ 0 → readingOf x ≡ record { code = 0; kind = 2; count = 0; server = port rate latency } → ReadAlone file x
+      unfolding over listOf flat
+      server-file-read right e = record { outcome = rw e (beside alone) }
+        where
+          clear : Clear (fileLines file)
+          clear = profile-clear file (w .clear) (rw holds-server (passed v right))
+
+          alone : (before : List ℕ) → ReadOutcome file before before (record { code = 0; kind = 2; count = 0; server = port rate latency })
+          alone before = rw holds-server at (read-answered file before clear (rw holds-server (omega arith)))
+
+-- ---- A curve.
+
+-- The pairs of decoded buckets are tested as a curve's list, which has the same numbers. (This law changes when a curve's list
+-- gets other numbers: then the pairs are tested as pairs.)
+module _ (f : List Bucket) (some : 1 ≤ length f) (few : length f ≤ 64) where
+  pairs-as-curve-list : {code : ℕ} → Verdict (curveLines (flat f)) code → Verdict (profileLines (curve f)) code
+  unfolding curveOf
+  pairs-as-curve-list = same-verdict to back
+    where
+      even : Uneven 2 (flat f) → ⊥
+      even (inl h) = omega (arith, flat-length f)
+      even (inr h) = h (omega (arith, flat-length f))
+
+      to : (r : Refusal) → curveLines (flat f) r → profileLines (curve f) r
+      to r (inl (inl (inl h))) = absurd (even (h .1))
+      to r (inl (inl (inr h))) = absurd (omega (arith, h .1, ap length (buckets-flat f)))
+      to r (inl (inr h)) = inl (rw buckets-flat at h)
+      to r (inr h) = inr (rw buckets-flat at h)
+
+      back : (r : Refusal) → profileLines (curve f) r → curveLines (flat f) r
+      back r (inl h) = inl (inr (rw buckets-flat h))
+      back r (inr h) = inr (rw buckets-flat h)
+
+-- buckets are handed over as the curve that a file holds
+module _ (file : List ℕ) (clear : Clear (fileLines file)) (f : List Bucket) (some : 1 ≤ length f) (is : profileOf file ≡ curve f) where
+  delivered-reading :
+      {at room : ℕ} {table after : List ℕ} {code count : ℕ} → PartOutcome (delivering (flat f)) at room table after code count
+      → PartOutcome (reading file) at room table after code count
+  unfolding delivering reading
+  delivered-reading o =
+      asked-so-in-part (delivering (flat f)) (reading file) (delivery-clear (flat f) even) clear
+      (λ g e. rw is (e ∙ buckets-flat f)) (λ g e. rw is at e ∙ sym (buckets-flat f)) o
+    where
+      even : Uneven 2 (flat f) → ⊥
+      even (inl h) = omega (arith, flat-length f)
+      even (inr h) = h (omega (arith, flat-length f))
+
+module _ {file : List ℕ} (w : CurveFile file) {n : ℕ} (count : Counts file n) where
+  -- the buckets lie in the file
+  pub curve-holds : Holds file n
+  curve-holds =
+      record {
+        inside = omega (arith, whole file (w .clear), taken-by-curve file refl (w .kind) count);
+        few = count .few;
+      }
+
+  module _ {pairs : List ℕ} (d : Decoded file n pairs) where
+    size : length (bucketsIn file 14 n) ≡ n
+    size = length-buckets-in file 14 n
+
+    one-at-least : 1 ≤ length (bucketsIn file 14 n)
+    unfolding countIn
+    one-at-least = omega (arith, size, count .is)
+
+    holds-curve : profileOf file ≡ curve (bucketsIn file 14 n)
+    unfolding countIn
+    holds-curve = held-curve file (w .kind) ∙ ap (λ (m : ℕ). curve (bucketsIn file 14 m)) (sym (count .is))
+
+    module _ {code : ℕ} (v : Verdict (curveLines (take (2 * n) pairs)) code) where
+      tested : Verdict (profileLines (curve (bucketsIn file 14 n))) code
+      tested =
+          pairs-as-curve-list (bucketsIn file 14 n) one-at-least (omega (arith, size, count .few)) (rw (d .is) at v)
+
+      -- it is not in normal form
+      pub curve-file-refused :
+          {at room : ℕ} {table : List ℕ} {x : Reading} → (code ≡ 0 → ⊥) → x ≡ refusedReading code
+          → ReadPartOutcome file at room table table x
+      curve-file-refused some e =
+          rw e (refused-file file (omega (arith, some)) (profile-verdict file (w .clear) (rw holds-curve tested)))
+
+      module _
+          (right : code ≡ 0) {at room : ℕ} {table after : List ℕ} {told found : ℕ}
+          (o : PartOutcome (delivering (take (2 * n) pairs)) at room table after told found)
+        where
+          clear : Clear (fileLines file)
+          clear = profile-clear file (w .clear) (rw holds-curve (passed tested right))
+
+          read-so : PartOutcome (reading file) at room table after told found
+          read-so = delivered-reading file clear (bucketsIn file 14 n) one-at-least holds-curve (rw (d .is) at o)
+
+          -- the part has no room for it
+          pub curve-file-short : {x : Reading} → (told ≡ 0 → ⊥) → x ≡ refusedReading told → ReadPartOutcome file at room table after x
+          curve-file-short some e =
+              rw e
+              (record {
+                list = subst (PartOutcome (reading file) at room table after told) (refusal-keeps-table read-so some .1) read-so;
+                told = record { accepted = λ z. absurd (some z); refused = λ _. (refl, refl) };
+              })
+
+          -- it is read
+          pub curve-file-read :
+              {x : Reading} → told ≡ 0 → x ≡ record { code = 0; kind = 1; count = found; server = noServer }
+              → ReadPartOutcome file at room table after x
+          curve-file-read zero-code e =
+              rw e
+              (record {
+                list = rw zero-code at read-so;
+                told = record { accepted = λ _. rw holds-curve (refl, refl); refused = λ z. absurd (z refl) };
+              })
+
+-- ---- A file.
+
+-- the whole list is a part of itself
+pub read-whole :
+    (file : List ℕ) {before after : List ℕ} {x : Reading} → ReadPartOutcome file 0 (length before) before after x
+    → ReadOutcome file before after x
+read-whole file o = record { list = whole-list (reading file) (o .list); told = o .told }
+
+-- a server's file, read beside the table
+pub read-alone :
+    {file : List ℕ} {at room : ℕ} {table : List ℕ} {x : held-profile.Profile} → ReadAlone file x
+    → ReadPartOutcome file at room table table (readingOf x)
+read-alone o = o .outcome _ _ _
+
+pub ruleset server-files = (server-rate-inside, server-latency-inside, server-file-refused, server-file-read)
+
+pub ruleset curve-files = (curve-holds, curve-file-refused, curve-file-short, curve-file-read)
+
+pub ruleset files = (frame-refused, framed-server, framed-curve, read-whole, read-alone)

@@ -1,0 +1,36 @@
+-- `curve` meets its contract: the buckets are decoded, tested for normal form, and handed over.
+-- Assumes nothing.
+use lib.ListN.{length-take}
+use native.Mathlib.Omega.{arith}
+use Rattle.profiles.proofs.Readings.{curve-files}
+use borrow.Author.Needs.{needs}
+use Rattle.profiles.proofs.reader.curve.Statement.{statement}
+use Rattle.profiles.proofs.reader.curve.Tie as tie
+
+slice-aggregate-curve : tie.Need-slice-aggregate-curve
+slice-aggregate-curve c = simp length-take (omega arith)
+
+slice-aggregate-deliver : tie.Need-slice-aggregate-deliver
+slice-aggregate-deliver c = simp length-take (omega arith)
+
+pub curve-spec : {M : Type 1} → statement M
+curve-spec =
+    tie.close
+    (tie.spec
+    (λ c κs. search needs)
+    (λ c. search needs)
+    (λ c κs. search (curve-files, needs))
+    (λ c. search (curve-files, needs))
+    (λ c. search (curve-files, needs))
+    slice-aggregate-curve
+    (λ c κs. search needs)
+    (λ c κs. search needs)
+    (λ c. search (curve-files, needs))
+    (λ c. search (curve-files, needs))
+    slice-aggregate-deliver
+    (λ c κs. search needs)
+    (λ c κs. search needs)
+    (λ c. search needs)
+    (λ c. search (curve-files, needs))
+    (λ c. search needs)
+    (λ c. search (curve-files, needs)))

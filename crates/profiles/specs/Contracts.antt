@@ -1,0 +1,82 @@
+-- What the contracts of this crate's own functions cite, beside the definitions of the crate meaning.
+-- Assumes nothing.
+use mathlib.Core.Path.{_≡_}
+use mathlib.Core.Logic.{_⊎_, _≢_}
+use mathlib.Core.List.{List, List·Memᴰ}
+use Prim.Native.Nat.{ℕ, _+_, _*_, _≤_, _<_}
+use lib.ListN.{length, take}
+use Rattle.meaning.specs.Curve.{flat}
+use Rattle.meaning.specs.Server.{noServer}
+use Rattle.meaning.specs.Refusal.{HEADER, LENGTH, PAD, Lines, _when_, _or_, Clear}
+use Rattle.meaning.specs.Profile.{edition, curveKind, serverKind, field, bucketsIn, editionOf, kindIn, bytesTaken, padding, Reading, ReadPartOutcome}
+use Rattle.servers.specs.Contracts.{serverOf}
+use Rattle.profiles.specs.declared.Profile as held-profile
+
+-- ---- A field.
+
+-- A field of at most 40 bits that lies in a file, and not further on than 4096 bits.
+pub record InFile (file : List ℕ) (at width : ℕ) : Type 0 where
+  pub inside : at + width ≤ 8 * length file
+  pub near : at ≤ 4096
+  pub narrow : width ≤ 40
+
+-- A byte as a number.
+pub record Widened (byte number : ℕ) : Type 0 where
+  pub is : number ≡ byte
+  pub small : number < 256
+
+-- ---- The frame of a file.
+
+-- How many buckets a curve's file has, by its count.
+unfoldable pub countIn : List ℕ → ℕ
+countIn file = field file 8 6 + 1
+
+-- It is that number, at most 64.
+pub record Counts (file : List ℕ) (count : ℕ) : Type 0 where
+  pub is : count ≡ countIn file
+  pub few : count ≤ 64
+
+-- The first line of a file.
+abbrev pub headerLine : List ℕ → Lines
+headerLine file =
+    HEADER when ((length file ≡ 0) ⊎ (editionOf file ≢ edition) ⊎ ((kindIn file ≢ curveKind) × (kindIn file ≢ serverKind)))
+
+-- Its first three lines, before those of the profile that it holds.
+unfoldable pub frameLines : List ℕ → Lines
+frameLines file =
+    headerLine file
+    or LENGTH when ((length file ≢ bytesTaken file) ⊎ ((kindIn file ≡ curveKind) × (length file ≡ 1)))
+    or PAD when List·Memᴰ 1 (padding file)
+
+-- ---- Reading.
+
+-- What code holds as a reading.
+abbrev pub readingOf : held-profile.Profile → Reading
+readingOf x = record { code = x .code; kind = x .kind; count = x .count; server = serverOf (x .server) }
+
+-- A refusal with its number: 0 for the rest.
+abbrev pub refusedReading : ℕ → Reading
+refusedReading code = record { code = code; kind = 0; count = 0; server = noServer }
+
+-- None of the first three lines holds of a server's file,
+pub record ServerFile (file : List ℕ) : Type 0 where
+  pub clear : Clear (frameLines file)
+  pub kind : kindIn file ≢ curveKind
+
+-- and none of a curve's.
+pub record CurveFile (file : List ℕ) : Type 0 where
+  pub clear : Clear (frameLines file)
+  pub kind : kindIn file ≡ curveKind
+
+-- So many buckets lie in a file.
+pub record Holds (file : List ℕ) (count : ℕ) : Type 0 where
+  pub inside : 14 + 60 * count ≤ 8 * length file
+  pub few : count ≤ 64
+
+-- The numbers of so many buckets of a file stand at the start of a list.
+pub record Decoded (file : List ℕ) (count : ℕ) (pairs : List ℕ) : Type 0 where
+  pub is : take (2 * count) pairs ≡ flat (bucketsIn file 14 count)
+
+-- A file is read, and every list that is lent stays.
+pub record ReadAlone (file : List ℕ) (x : held-profile.Profile) : Type 0 where
+  pub outcome : (at room : ℕ) (table : List ℕ) → ReadPartOutcome file at room table table (readingOf x)
