@@ -10,7 +10,7 @@ use Prim.Native.Nat.{ℕ, suc, _+_, _-_, _*_, _≤_, _<_}
 use native.Mathlib.Nat.{le-of-lt}
 use native.Mathlib.Omega.{arith}
 use lib.ListN.{length, getD}
-use Rattle.meaning.specs.Curve.{Bucket, _∈_, bucketAt, Falling, Useful, NormalForm, Crossing, reads, numbered}
+use Rattle.meaning.specs.Curve.{Bucket, _∈_, bucketAt, Falling, Useful, NormalForm, Crossing, reads, numbered, value}
 use Rattle.meaning.specs.Server.{Server, Instant, served, GreatestGap, Excess, Backlog}
 use Rattle.meaning.specs.Profile.{written, curve}
 use Rattle.meaning.proofs.Order.{le-or-lt, lt-or-eq-or-gt}
@@ -134,8 +134,8 @@ pub record SmallestBurst (f : List Bucket) (n : ℕ) : Type 0 where
   pub smallest : (k : Bucket) → k ∈ f → n ≤ k .burst
 
 -- the value at tick 0 is the smallest burst
-pub value-at-zero : (f : List Bucket) → 1 ≤ length f → SmallestBurst f (reads f 0)
-unfolding bucketAt reads
+pub value-at-zero : (f : List Bucket) → 1 ≤ length f → SmallestBurst f (value f 0)
+unfolding bucketAt value
 value-at-zero f h =
     let r = value-reached f 0 1 h in
     record {
@@ -144,6 +144,11 @@ value-at-zero f h =
       reached = omega (arith, r .value-is);
       smallest = λ k m. omega (arith, value-least f 0 1 m);
     }
+
+-- at every other tick it is what backlog, delay and the curve behind read
+pub value-later : (f : List Bucket) (t : ℕ) → 1 ≤ t → value f t ≡ reads f t
+unfolding value reads
+value-later f t h = refl
 
 -- ---- Service: nothing up to the latency, then the rate for each tick.
 
