@@ -19,28 +19,33 @@ struct axis axis_for(uint64_t needed)
     }
 }
 
-int axis_has_letters(struct axis a) { return a.end >= PLAIN_END; }
+struct unit axis_unit(struct axis a)
+{
+    static const char letters[] = " kMGTPE";
+    struct unit u = {' ', 1};
+    if (a.end < PLAIN_END)
+        return u;
+    for (const char *next = letters + 1; *next != '\0' && a.end / u.stands_for >= 1000; next++)
+        u = (struct unit){*next, u.stands_for * 1000};
+    return u;
+}
 
 void axis_mark(struct axis a, uint64_t number, char to[MARK_BYTES])
 {
-    static const char letters[] = " kMGTPE";
-    uint64_t unit = 1, part;
-    unsigned letter = 0;
-    while (axis_has_letters(a) && letters[letter + 1] != '\0' && a.end / unit >= 1000) {
-        unit *= 1000;
-        letter++;
-    }
-    if (letter == 0 || number == 0) {
+    struct unit u = axis_unit(a);
+    if (u.stands_for == 1 || number == 0) {
         snprintf(to, MARK_BYTES, "%" PRIu64, number);
         return;
     }
     int digits = 0;
-    for (part = unit; a.step % part != 0 && digits < 3; part /= 10)
+    uint64_t part = u.stands_for;
+    for (; a.step % part != 0 && digits < 3; part /= 10)
         digits++;
     if (digits == 0)
-        snprintf(to, MARK_BYTES, "%" PRIu64 "%c", number / unit, letters[letter]);
+        snprintf(to, MARK_BYTES, "%" PRIu64 "%c", number / u.stands_for, u.letter);
     else
-        snprintf(to, MARK_BYTES, "%" PRIu64 ".%0*" PRIu64 "%c", number / unit, digits, number % unit / part, letters[letter]);
+        snprintf(to, MARK_BYTES, "%" PRIu64 ".%0*" PRIu64 "%c", number / u.stands_for, digits, number % u.stands_for / part,
+                 u.letter);
 }
 
 double axis_place(struct axis a, double number, double length) { return number / (double)a.end * length; }

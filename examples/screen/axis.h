@@ -15,8 +15,12 @@ struct axis axis_for(uint64_t needed);
 enum { MARK_BYTES = 48 };
 void axis_mark(struct axis a, uint64_t number, char to[MARK_BYTES]);
 
-/* Whether the marks of an axis have letters behind them. */
-int axis_has_letters(struct axis a);
+/* The letter of an axis's marks, and what it stands for; ' ' and 1 where they have none. */
+struct unit {
+    char letter;
+    uint64_t stands_for;
+};
+struct unit axis_unit(struct axis a);
 
 /* Where a number stands on an axis of `length`. */
 double axis_place(struct axis a, double number, double length);

@@ -10,7 +10,7 @@
 static void say_title(struct picture *p, const struct route *r, size_t hop)
 {
     if (hop > 0) {
-        ADD(p->title, "%s at %s, hop %zu of %zu", r->traffic.name, r->hops[hop - 1].entry.name, hop, r->hop_count);
+        ADD(p->title, "Hop %zu of %zu: %s at %s", hop, r->hop_count, r->traffic.name, r->hops[hop - 1].entry.name);
         return;
     }
     ADD(p->title, "%s through", r->traffic.name);
@@ -18,17 +18,27 @@ static void say_title(struct picture *p, const struct route *r, size_t hop)
         ADD(p->title, " %s%s", r->hops[i].entry.name, i + 1 < r->hop_count ? "," : "");
 }
 
+/* What a letter at an axis stands for. */
+static void say_unit(struct picture *p, struct unit u)
+{
+    if (u.stands_for > 1)
+        ADD(p->marks, "%s1%c is %" PRIu64, *p->marks == '\0' ? "at the axes " : ", ", u.letter, u.stands_for);
+}
+
 static void say_lines(struct picture *p, const struct route *r, size_t hop)
 {
     const struct plot *d = &p->plot;
-    ADD(p->traffic, "traffic: %s, %" PRIu64 " %s%s", r->traffic.name, d->curve.count, plural(d->curve.count, "bucket", "buckets"),
+    char name[SHORT_BYTES] = "";
+    ADD(name, "%s", r->traffic.name);
+    ADD(p->traffic, "traffic: %s, %" PRIu64 " %s%s", name, d->curve.count, plural(d->curve.count, "bucket", "buckets"),
         hop > 1 ? ", as it leaves the hop before" : "");
     ADD(p->served, "served: %" PRIu64 " %s a tick after %" PRIu64 " %s%s", d->server.rate, plural(d->server.rate, "bit", "bits"),
         d->server.latency, plural(d->server.latency, "tick", "ticks"), hop == 0 && r->hop_count > 1 ? ", all ports as one" : "");
-    if (axis_has_letters(d->ticks) || axis_has_letters(d->bits))
-        ADD(p->marks, "k, M, G, T, P, E: a thousand, 10^6, 10^9, 10^12, 10^15, 10^18");
+    say_unit(p, axis_unit(d->bits));
+    if (axis_unit(d->ticks).letter != axis_unit(d->bits).letter)
+        say_unit(p, axis_unit(d->ticks));
     if (d->curve_end < d->ticks.end)
-        ADD(p->ends, "the traffic is drawn to tick %" PRIu64 ", the last that can be asked for", d->curve_end);
+        ADD(p->ends, "the lines end where no later tick can be asked for, the traffic's at tick %" PRIu64, d->curve_end);
 }
 
 static void say_measures(struct picture *p)
@@ -38,15 +48,14 @@ static void say_measures(struct picture *p)
     if (m->backlog == 0)
         ADD(p->backlog, "nothing ever waits");
     else
-        ADD(p->backlog, "by tick %" PRIu64 ", %" PRIu64 " may have come and %" PRIu64 " %s served", m->full, m->full_come,
+        ADD(p->backlog, "%" PRIu64 " may have come by tick %" PRIu64 ", and %" PRIu64 " %s served by then", m->full_come, m->full,
             m->full_served, plural(m->full_served, "is", "are"));
     ADD(p->delay, "delay %" PRIu64 " %s: ", m->delay, plural(m->delay, "tick", "ticks"));
     if (m->delay == 0)
         ADD(p->delay, "what has come by a tick is served by it");
     else
-        ADD(p->delay, "the %" PRIu64 " %s of tick %" PRIu64 " %s served by tick %" PRIu64 ", not by %" PRIu64, m->late_come,
-            plural(m->late_come, "bit", "bits"), m->late, plural(m->late_come, "is", "are"), m->late + m->delay,
-            m->late + m->delay - 1);
+        ADD(p->delay, "%" PRIu64 " may have come by tick %" PRIu64 ", served by tick %" PRIu64 " and not by %" PRIu64, m->late_come,
+            m->late, m->late + m->delay, m->late + m->delay - 1);
 }
 
 static void say_unknown(struct picture *p, const struct route *r)
@@ -54,7 +63,7 @@ static void say_unknown(struct picture *p, const struct route *r)
     for (size_t place = 1; place <= r->hop_count + 1; place++) {
         const struct entry *e = route_entry(r, place);
         if (e->origin.standing != KNOWN)
-            ADD(p->authors, "%s%s", *p->authors == '\0' ? "author not known: " : ", ", e->name);
+            ADD(p->authors, "%s%s", *p->authors == '\0' ? "CHECK FIRST, author not known: " : ", ", e->name);
     }
 }
 

@@ -7,16 +7,16 @@
 #include "plot.h"
 #include "route.h"
 
-enum { TITLE_BYTES = 96, CAPTION_BYTES = 160 };
+enum { TITLE_BYTES = 64, SHORT_BYTES = 32, AUTHORS_BYTES = 96, CAPTION_BYTES = 192 };
 
 /* A plot with the words around it. */
 struct picture {
     char title[TITLE_BYTES];
-    char traffic[CAPTION_BYTES], served[CAPTION_BYTES];  /* what the two lines are */
-    char backlog[CAPTION_BYTES], delay[CAPTION_BYTES];   /* the two figures, and where they are measured */
-    char marks[CAPTION_BYTES];                           /* the letters at the axes; "" where there are none */
-    char ends[CAPTION_BYTES];                            /* where the traffic's line ends before the axis; "" where it does not */
-    char authors[CAPTION_BYTES];                         /* the authors that are not known; "" where all are */
+    char traffic[CAPTION_BYTES], served[CAPTION_BYTES]; /* what the two lines are */
+    char backlog[CAPTION_BYTES], delay[CAPTION_BYTES];  /* the two figures, and where they are measured */
+    char authors[AUTHORS_BYTES];                        /* whose authors are not known; "" where all are */
+    char marks[CAPTION_BYTES];                          /* the letters at the axes; "" where there are none */
+    char ends[CAPTION_BYTES];                           /* where the traffic's line ends before the axis; "" where it does not */
     struct plot plot;
 };
 

@@ -24,13 +24,17 @@ static void choose_axes(struct plot *p)
     ask_come(&p->curve, p->curve_end, &bits);
     if (bits == 0)
         ask_served(p->server, p->ticks.end, &bits);
-    p->bits = axis_for(bits == 0 ? 1 : bits + bits / 20);
+    p->bits = axis_for(bits + bits / 20 + 1);
 }
 
 static void put_mark(struct plot *p, int column, int row, enum mark mark)
 {
-    if (column >= 0 && column <= COLUMNS && row >= 0 && row <= ROWS)
-        p->board[row][column] = (char)mark;
+    if (column < 0 || column > COLUMNS || row < 0 || row > ROWS)
+        return;
+    char *cell = &p->board[row][column];
+    if (mark == CURVE_MARK && *cell == SERVED_MARK && column % 2 == 1)
+        return; /* where the two lines are one, their marks take turns */
+    *cell = (char)mark;
 }
 
 /* What has come, or what is served, by a tick. */
@@ -85,7 +89,7 @@ static void try_place(const struct plot *p, struct label *l, int row, int column
     int length = (int)strlen(l->text);
     if (row < 0 || row > ROWS || column < 0 || column + length > COLUMNS + 1)
         return;
-    int cost = 100 * covered(p, row, column, length) + far;
+    int cost = 100 * covered(p, row, column, length) + far + (row == 0 ? 150 : 0); /* the axis runs through row 0 */
     if (*best >= 0 && cost >= *best)
         return;
     *best = cost;
@@ -94,7 +98,8 @@ static void try_place(const struct plot *p, struct label *l, int row, int column
     l->on_the_left = on_the_left;
 }
 
-/* The backlog's label: beside the vertical, on the right if it can be, near its middle. */
+/* The backlog's label: beside the vertical, near its middle; or beside its lower end under what is served, or its upper end over the
+ * curve. */
 static void place_backlog(struct plot *p)
 {
     struct label *l = &p->backlog;
@@ -106,6 +111,10 @@ static void place_backlog(struct plot *p)
         int far = 2 * row > low + high ? 2 * row - low - high : low + high - 2 * row;
         try_place(p, l, row, column + 2, far, 0, &best);
         try_place(p, l, row, column - 1 - length, far + 1, 1, &best);
+    }
+    for (int beyond = 1; beyond <= 3; beyond++) {
+        try_place(p, l, low - beyond, column + 2, 50 + beyond, 0, &best);
+        try_place(p, l, high + beyond, column - 1 - length, 60 + beyond, 1, &best);
     }
 }
 

@@ -9,7 +9,7 @@
 #include "axis.h"
 #include "measure.h"
 
-enum { COLUMNS = 64, ROWS = 20, LABEL_BYTES = 48 };
+enum { COLUMNS = 60, ROWS = 20, LABEL_BYTES = 48 };
 
 enum mark { BLANK = ' ', SERVED_MARK = '.', CURVE_MARK = '*', BACKLOG_MARK = '#', DELAY_MARK = '=' };
 

@@ -4,7 +4,7 @@
 #include "picture.h"
 #include "text.h"
 
-enum { MARGIN = 8 };
+enum { MARGIN = 7 }; /* columns before the board */
 
 /* The row or column at which a step of an axis stands. */
 static int step_place(struct axis a, uint64_t number, int length) { return (int)(axis_place(a, (double)number, length) + 0.5); }
@@ -23,7 +23,9 @@ static void put_row(const struct plot *d, int row)
     size_t end = COLUMNS + 1;
     while (end > 0 && line[end - 1] == ' ')
         line[--end] = '\0';
-    printf("%*s %c%s\n", MARGIN - 2, mark, *mark != '\0' ? '+' : '|', line);
+    if (line[0] == ' ' || line[0] == '\0')
+        line[0] = *mark != '\0' ? '+' : '|'; /* the axis, where nothing else is to be seen */
+    printf("%*s %s\n", MARGIN - 1, mark, line);
 }
 
 static void put_tick_axis(struct axis a)
@@ -38,7 +40,7 @@ static void put_tick_axis(struct axis a)
         line[column] = '+';
         memcpy(marks + column - (int)strlen(mark) / 2, mark, strlen(mark));
     }
-    printf("%*s+%.*s\n", MARGIN - 1, "", COLUMNS + 1, line + MARGIN);
+    printf("%*s%.*s\n", MARGIN, "", COLUMNS + 1, line + MARGIN);
     size_t end = sizeof marks;
     while (marks[end - 1] == ' ')
         end--;
@@ -56,7 +58,7 @@ static void put_caption(char mark, const char *text)
 void picture_text(const struct picture *p)
 {
     put_lines(stdout, 0, 2, p->title);
-    printf("\n%*s\n", MARGIN - 2, "bits");
+    printf("\n%*s\n", MARGIN - 1, "bits");
     for (int row = ROWS; row >= 0; row--)
         put_row(&p->plot, row);
     put_tick_axis(p->plot.ticks);

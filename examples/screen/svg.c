@@ -5,21 +5,23 @@
 #include "picture.h"
 
 enum {
-    CELL_WIDTH = 10,
+    CELL_WIDTH = 11,
     CELL_HEIGHT = 18,
-    LEFT = 80,
-    TOP = 110,
-    WIDTH = LEFT + COLUMNS * CELL_WIDTH + 60,
+    LEFT = 70,
+    TOP = 128,
+    WIDTH = LEFT + COLUMNS * CELL_WIDTH + 50,
     BOTTOM = TOP + ROWS * CELL_HEIGHT,
     CAPTION_TOP = BOTTOM + 62,
     LINE_HEIGHT = 20,
+    LINE_CHARACTERS = 100,
     MOST_DOTS = 32 /* with so many ticks or fewer, each whole tick has its dot */
 };
 
 #define CURVE_COLOUR "#0072b2"
-#define SERVED_COLOUR "#555555"
+#define SERVED_COLOUR "#333333"
 #define BACKLOG_COLOUR "#c43c00"
 #define DELAY_COLOUR "#00785a"
+#define WARNING_COLOUR "#b00020"
 
 static double x_of(const struct plot *d, double tick) { return LEFT + axis_place(d->ticks, tick, COLUMNS * CELL_WIDTH); }
 static double y_of(const struct plot *d, double bits) { return BOTTOM - axis_place(d->bits, bits, ROWS * CELL_HEIGHT); }
@@ -79,7 +81,7 @@ static void put_axes(FILE *to, const struct plot *d)
         axis_mark(d->bits, n, mark);
         put_words(to, LEFT - 8, y_of(d, (double)n) + 4, "text-anchor=\"end\"", mark);
     }
-    put_words(to, LEFT - 8, TOP - 16, "text-anchor=\"end\" font-weight=\"bold\"", "bits");
+    put_words(to, LEFT - 8, TOP - 18, "text-anchor=\"end\" font-weight=\"bold\"", "bits");
     put_words(to, LEFT + COLUMNS * CELL_WIDTH, BOTTOM + 36, "text-anchor=\"end\" font-weight=\"bold\"", "ticks");
 }
 
@@ -98,7 +100,7 @@ static void put_curve(FILE *to, const struct plot *d)
         bits = next;
         tick = next_tick;
     }
-    fprintf(to, "L%.1f %.1f\" fill=\"none\" stroke=\"" CURVE_COLOUR "\" stroke-width=\"2.5\"/>\n", x_of(d, (double)tick),
+    fprintf(to, "L%.1f %.1f\" fill=\"none\" stroke=\"" CURVE_COLOUR "\" stroke-width=\"3.5\"/>\n", x_of(d, (double)tick),
             y_of(d, (double)bits));
 }
 
@@ -114,7 +116,7 @@ static void put_served(FILE *to, const struct plot *d)
         y = TOP;
     }
     fprintf(to, "<path d=\"M%.1f %dH%.1fL%.1f %.1f\" fill=\"none\" stroke=\"" SERVED_COLOUR
-                "\" stroke-width=\"2.5\" stroke-dasharray=\"7 4\"/>\n",
+                "\" stroke-width=\"2\" stroke-dasharray=\"7 4\"/>\n",
             x_of(d, 0), (int)BOTTOM, x_of(d, (double)from), x, y);
 }
 
@@ -164,35 +166,57 @@ static void put_measures(FILE *to, const struct plot *d)
     }
 }
 
-/* The names of the two lines, each with a piece of its line. */
+/* The names of the two lines, each with a piece of its line, and the authors to check. */
 static void put_legend(FILE *to, const struct picture *p)
 {
-    fprintf(to, "<path d=\"M%d 46h36\" stroke=\"" CURVE_COLOUR "\" stroke-width=\"2.5\"/>\n", (int)LEFT);
+    put_words(to, LEFT, 24, "font-size=\"16\" font-weight=\"bold\"", p->title);
+    fprintf(to, "<path d=\"M%d 46h36\" stroke=\"" CURVE_COLOUR "\" stroke-width=\"3.5\"/>\n", (int)LEFT);
     put_words(to, LEFT + 46, 50, "", p->traffic);
-    fprintf(to, "<path d=\"M%d 66h36\" stroke=\"" SERVED_COLOUR "\" stroke-width=\"2.5\" stroke-dasharray=\"7 4\"/>\n", (int)LEFT);
+    fprintf(to, "<path d=\"M%d 66h36\" stroke=\"" SERVED_COLOUR "\" stroke-width=\"2\" stroke-dasharray=\"7 4\"/>\n", (int)LEFT);
     put_words(to, LEFT + 46, 70, "", p->served);
+    if (*p->authors != '\0')
+        put_words(to, LEFT, 92, "font-weight=\"bold\" fill=\"" WARNING_COLOUR "\"", p->authors);
+}
+
+/* A caption in lines; answers how many. Where `to` is NULL they are only counted. */
+static int put_caption(FILE *to, int line, const char *look, const char *text)
+{
+    int lines = 0;
+    for (size_t length; *text != '\0'; text += length + strspn(text + length, " ")) {
+        char part[LINE_CHARACTERS + 1] = "";
+        length = strlen(text);
+        if (length > LINE_CHARACTERS)
+            for (length = LINE_CHARACTERS; length > 1 && text[length] != ' ';)
+                length--;
+        memcpy(part, text, length);
+        if (to != NULL)
+            put_words(to, LEFT, CAPTION_TOP + (line + lines) * LINE_HEIGHT, look, part);
+        lines++;
+    }
+    return lines;
+}
+
+static int put_captions(FILE *to, const struct picture *p)
+{
+    int line = 0;
+    line += put_caption(to, line, "fill=\"" BACKLOG_COLOUR "\"", p->backlog);
+    line += put_caption(to, line, "fill=\"" DELAY_COLOUR "\"", p->delay);
+    line += put_caption(to, line, "fill=\"#555555\"", p->marks);
+    line += put_caption(to, line, "fill=\"#555555\"", p->ends);
+    return line;
 }
 
 void picture_svg(const struct picture *p, FILE *to)
 {
-    const char *captions[] = {p->backlog, p->delay, p->authors, p->marks, p->ends};
-    const char *looks[] = {"fill=\"" BACKLOG_COLOUR "\"", "fill=\"" DELAY_COLOUR "\"", "font-weight=\"bold\"", "fill=\"#555555\"",
-                           "fill=\"#555555\""};
-    int lines = 0;
-    for (int i = 0; i < 5; i++)
-        lines += *captions[i] != '\0';
-    put_head(to, p, CAPTION_TOP + lines * LINE_HEIGHT);
-    put_words(to, LEFT, 24, "font-size=\"16\" font-weight=\"bold\"", p->title);
+    put_head(to, p, CAPTION_TOP + put_captions(NULL, p) * LINE_HEIGHT);
     put_legend(to, p);
     put_axes(to, &p->plot);
     fputs("<g clip-path=\"url(#board)\">\n", to);
-    put_served(to, &p->plot);
     put_curve(to, &p->plot);
+    put_served(to, &p->plot); /* over the curve, which shows between its dashes where the two are one */
     put_dots(to, &p->plot);
     fputs("</g>\n", to);
     put_measures(to, &p->plot);
-    for (int i = 0, line = 0; i < 5; i++)
-        if (*captions[i] != '\0')
-            put_words(to, LEFT, CAPTION_TOP + line++ * LINE_HEIGHT, looks[i], captions[i]);
+    put_captions(to, p);
     fputs("</svg>\n", to);
 }
