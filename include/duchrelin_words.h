@@ -48,8 +48,8 @@ static inline const char *duchrelin_code_meaning(uint64_t code)
     case DUCHRELIN_ANSWERED:
         return "Answered: the figures are exact.";
     case DUCHRELIN_HEADER:
-        return "The file is empty, or it does not begin as a profile of traffic or of a port does, or it is the one where the "
-               "other is due.";
+        return "The file is empty or does not begin as a profile does; or, in a route, it is a port where traffic is due, or the "
+               "reverse.";
     case DUCHRELIN_LENGTH:
         return "The file is shorter or longer than what it says it holds.";
     case DUCHRELIN_PAD:
@@ -80,8 +80,8 @@ static inline const char *duchrelin_code_advice(uint64_t code)
     case DUCHRELIN_ANSWERED:
         return "Write the figures down.";
     case DUCHRELIN_HEADER:
-        return "Name the traffic first and then the ports. If the order was right, ask whoever uploaded the file for a profile of "
-               "edition 1.";
+        return "Ask whoever uploaded the file for a profile of edition 1. In a route, name the traffic first and the ports after "
+               "it.";
     case DUCHRELIN_LENGTH:
         return "Part of it was lost or something was added on the way: fetch it again, or ask whoever uploaded it to send it again.";
     case DUCHRELIN_PAD:

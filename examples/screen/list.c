@@ -7,12 +7,14 @@
 #include "screen.h"
 #include "text.h"
 
-enum group { TRAFFIC, PORTS, TROUBLE, GROUPS };
+enum group { TRAFFIC, PORTS, REFUSED_FILES, NOT_READ, GROUPS };
 
 static enum group group_of(const struct entry *e)
 {
-    if (e->error != 0 || e->code != DUCHRELIN_ANSWERED)
-        return TROUBLE;
+    if (e->error != 0)
+        return NOT_READ;
+    if (e->code != DUCHRELIN_ANSWERED)
+        return REFUSED_FILES;
     return e->profile.kind == DUCHRELIN_KIND_CURVE ? TRAFFIC : PORTS;
 }
 
@@ -37,17 +39,15 @@ static void list_group(const struct entry *entries, size_t count, enum group gro
 
 static void list_entries(const struct store *s, const struct entry *entries, size_t count)
 {
-    static const char *const headings[GROUPS] = {"TRAFFIC", "PORTS", "REFUSED"};
+    static const char *const headings[GROUPS] = {"TRAFFIC", "PORTS", "REFUSED", "NOT TO BE READ"};
     size_t in[GROUPS] = {0}, unknown = 0;
     for (size_t i = 0; i < count; i++) {
         in[group_of(&entries[i])]++;
         unknown += entries[i].origin.standing != KNOWN;
     }
-    printf("The store %s: %zu %s, of which %zu %s traffic, %zu %s, %zu refused.\n", s->path, count,
-           plural(count, "profile", "profiles"), in[TRAFFIC], plural(in[TRAFFIC], "is", "are"), in[PORTS],
-           plural(in[PORTS], "a port", "ports"), in[TROUBLE]);
-    if (unknown > 0)
-        printf("Uploaded by authors that are not known: %zu.\n", unknown);
+    printf("The store %s: %zu %s\n", s->path, count, plural(count, "profile", "profiles"));
+    printf("  traffic %zu, ports %zu, refused %zu, not to be read %zu; author not known %zu\n", in[TRAFFIC], in[PORTS],
+           in[REFUSED_FILES], in[NOT_READ], unknown);
     for (enum group g = TRAFFIC; g < GROUPS; g++)
         list_group(entries, count, g, headings[g]);
 }

@@ -12,18 +12,20 @@
 #define DUCHRELIN_VERSION "of no release"
 #endif
 
-/* A command, and how many names it takes. */
+/* A command, how many names it takes, and what to say where there are fewer or more. */
 static const struct {
     const char *word;
     enum command command;
     size_t least, most;
-    const char *takes;
+    const char *too_few, *too_many;
 } commands[] = {
-    {"list", LIST, 0, 0, "'list' takes no names"},
-    {"show", SHOW, 1, (size_t)-1, "'show' takes the names of profiles"},
-    {"route", ROUTE, 2, 1 + DUCHRELIN_MOST_SERVERS, "'route' takes the name of the traffic, then those of 1 to 32 ports"},
-    {"picture", PICTURE, 2, 1 + DUCHRELIN_MOST_SERVERS, "'picture' takes the name of the traffic, then those of 1 to 32 ports"},
-    {"explain", EXPLAIN, 0, 1, "'explain' takes the number of a refusal, or nothing for all of them"},
+    {"list", LIST, 0, 0, "", "'list' takes no names"},
+    {"show", SHOW, 1, (size_t)-1, "'show' takes the names of profiles", ""},
+    {"route", ROUTE, 2, 1 + DUCHRELIN_MOST_SERVERS, "'route' takes the name of the traffic and then those of the ports",
+     "a route has 32 ports at most"},
+    {"picture", PICTURE, 2, 1 + DUCHRELIN_MOST_SERVERS, "'picture' takes the name of the traffic and then those of the ports",
+     "a route has 32 ports at most"},
+    {"explain", EXPLAIN, 0, 1, "", "'explain' takes the number of one refusal, or nothing for all of them"},
 };
 
 void say_help(void)
@@ -51,11 +53,11 @@ void say_help(void)
            "      --version         the version\n"
            "      --                what follows is no option\n"
            "\n"
-           "A profile NAME is the file NAME.profile of the store; uploads.txt there says what\n"
-           "each is and who uploaded it, authors.txt which authors are known.\n"
+           "A profile NAME is the file NAME.profile of the store; uploads.txt there says\n"
+           "what each is and who uploaded it, authors.txt which authors are known.\n"
            "\n"
-           "Exit status: 0 answered; 1 something was refused; 2 a name is not there, a file or\n"
-           "folder cannot be read or written, or the command line makes no sense.\n");
+           "Exit status: 0 answered; 1 something was refused; 2 a name is not there, a file\n"
+           "or folder cannot be read or written, or the command line makes no sense.\n");
 }
 
 void say_version(void) { printf("%s %s\n", PROGRAM, DUCHRELIN_VERSION); }
@@ -68,40 +70,44 @@ static size_t hop_number(const char *text)
     return number <= DUCHRELIN_MOST_SERVERS ? number : 0;
 }
 
-/* The value of an option that has one, in `argv[*at]` after '=' or in the next word; NULL where argv[*at] is another option. */
-static const char *value_of(const char *option, int argc, char **argv, int *at)
+/* Whether a word is this option. Its value is what follows '=' or the next word, which is then taken; NULL where there is none. */
+static int is_option(const char *option, const char **value, int argc, char **argv, int *at)
 {
     size_t length = strlen(option);
-    if (strncmp(argv[*at], option, length) != 0)
-        return NULL;
-    if (argv[*at][length] == '=' && option[1] == '-')
-        return argv[*at] + length + 1;
-    if (argv[*at][length] != '\0' || *at + 1 >= argc)
-        return NULL;
-    return argv[++*at];
+    if (strncmp(argv[*at], option, length) != 0 || (argv[*at][length] != '\0' && argv[*at][length] != '='))
+        return 0;
+    if (argv[*at][length] == '=')
+        *value = argv[*at] + length + 1;
+    else
+        *value = *at + 1 < argc ? argv[++*at] : NULL;
+    return 1;
 }
 
 /* One option, and its value where it has one. */
 static int read_option(struct options *o, int argc, char **argv, int *at)
 {
-    const char *word = argv[*at], *value;
+    char *word = visible_copy(argv[*at]);
+    const char *value = "";
+    const char *wrong = NULL;
     if (strcmp(word, "--help") == 0 || strcmp(word, "-h") == 0)
         o->command = HELP;
     else if (strcmp(word, "--version") == 0)
         o->command = VERSION;
-    else if ((value = value_of("--store", argc, argv, at)) != NULL || (value = value_of("-s", argc, argv, at)) != NULL)
+    else if (is_option("--store", &value, argc, argv, at) || is_option("-s", &value, argc, argv, at))
         o->store = value;
-    else if ((value = value_of("--svg", argc, argv, at)) != NULL)
+    else if (is_option("--svg", &value, argc, argv, at))
         o->svg = value;
-    else if ((value = value_of("--hop", argc, argv, at)) != NULL && hop_number(value) != 0)
-        o->hop = hop_number(value);
-    else {
-        char *shown = visible_copy(word);
-        complain("'%s' is no option, or its value is missing or makes no sense; see '%s --help'", shown, PROGRAM);
-        free(shown);
-        return FAILED;
-    }
-    return ANSWERED;
+    else if (is_option("--hop", &value, argc, argv, at)) {
+        o->hop = value == NULL ? 0 : hop_number(value);
+        wrong = o->hop == 0 ? "takes the number of a hop, from 1 on" : NULL;
+    } else
+        wrong = "is no option";
+    if (value == NULL)
+        wrong = "needs a value";
+    if (wrong != NULL)
+        complain("'%s' %s; see '%s --help'", word, wrong, PROGRAM);
+    free(word);
+    return wrong == NULL ? ANSWERED : FAILED;
 }
 
 /* Finds the command, and whether it has the names that it takes. */
@@ -113,7 +119,7 @@ static int check_command(struct options *o, const char *word)
         o->command = commands[i].command;
         if (o->count >= commands[i].least && o->count <= commands[i].most)
             return ANSWERED;
-        complain("%s; %zu %s given", commands[i].takes, o->count, plural(o->count, "was", "were"));
+        complain("%s; see '%s --help'", o->count < commands[i].least ? commands[i].too_few : commands[i].too_many, PROGRAM);
         return FAILED;
     }
     char *shown = visible_copy(word);

@@ -7,7 +7,7 @@
 #include "plot.h"
 #include "route.h"
 
-enum { TITLE_BYTES = 64, SHORT_BYTES = 32, AUTHORS_BYTES = 96, CAPTION_BYTES = 192 };
+enum { TITLE_BYTES = 64, SHORT_BYTES = 32, AUTHORS_BYTES = 84, CAPTION_BYTES = 192 };
 
 /* A plot with the words around it. */
 struct picture {

@@ -97,22 +97,25 @@ static void say_figures(const struct route *r)
     printf("  %8" PRIu64 "  %8" PRIu64 "  %14" PRIu64 "  %14" PRIu64 "\n", r->joined.rate, r->joined.latency, r->backlog, r->delay);
 }
 
+/* The line to write down: it names one port or two, and of more the first and the last. */
+static void say_line(const struct route *r)
+{
+    const char *first = r->hops[0].entry.name, *last = r->hops[r->hop_count - 1].entry.name;
+    printf("WRITE DOWN: delay %" PRIu64 " %s, for %s through ", r->delay, plural(r->delay, "tick", "ticks"), r->traffic.name);
+    if (r->hop_count == 1)
+        printf("%s\n", first);
+    else if (r->hop_count == 2)
+        printf("%s and %s\n", first, last);
+    else
+        printf("%zu ports, %s to %s\n", r->hop_count, first, last);
+}
+
 void say_report(const struct route *r)
 {
-    size_t names = 0;
     printf("Route of %s through %zu %s\n\n", r->traffic.name, r->hop_count, plural(r->hop_count, "port", "ports"));
     say_authors(stdout, r);
     printf("\n");
     say_figures(r);
-    for (size_t i = 0; i < r->hop_count; i++)
-        names += strlen(r->hops[i].entry.name) + 2;
-    size_t room = names + strlen(r->traffic.name) + 160;
-    char *line = need_memory(calloc(room, 1));
-    add_text(line, room, "WRITE DOWN: delay %" PRIu64 " %s, for %s through", r->delay, plural(r->delay, "tick", "ticks"),
-             r->traffic.name);
-    for (size_t i = 0; i < r->hop_count; i++)
-        add_text(line, room, " %s%s", r->hops[i].entry.name, i + 1 < r->hop_count ? "," : ".");
     printf("\n");
-    put_lines(stdout, 0, 12, line);
-    free(line);
+    say_line(r);
 }

@@ -12,6 +12,15 @@ enum { NAME_COLUMNS = 16, HEADING_COLUMNS = 17, FEW_BUCKETS = 4 };
 
 static void indent(FILE *to) { fprintf(to, "%*s", NAME_COLUMNS, ""); }
 
+/* A line under a profile's name, or more. */
+static void say_sentence(FILE *to, const char *text)
+{
+    if (*text == '\0')
+        return;
+    indent(to);
+    put_lines(to, NAME_COLUMNS, NAME_COLUMNS, text);
+}
+
 static void say_buckets(FILE *to, const struct curve *c, int all)
 {
     uint64_t shown = all || c->count <= FEW_BUCKETS ? c->count : FEW_BUCKETS;
@@ -21,17 +30,17 @@ static void say_buckets(FILE *to, const struct curve *c, int all)
         add_text(words, sizeof words, " (%" PRIu64 ",%" PRIu64 ")", bucket_rate(c, i), bucket_burst(c, i));
     if (shown < c->count)
         add_text(words, sizeof words, " and %" PRIu64 " more", c->count - shown);
-    indent(to);
-    put_lines(to, NAME_COLUMNS, NAME_COLUMNS, words);
+    say_sentence(to, words);
 }
 
 static void say_curve(FILE *to, const struct curve *c, int all_buckets)
 {
-    uint64_t burst;
-    indent(to);
-    if (ask_burst(c, &burst) == DUCHRELIN_ANSWERED)
-        fprintf(to, "traffic: at most %" PRIu64 " %s at once, %" PRIu64 " %s a tick in the long run\n", burst,
-                plural(burst, "bit", "bits"), long_run_rate(c), plural(long_run_rate(c), "bit", "bits"));
+    uint64_t burst = 0;
+    char words[ABOUT_BYTES] = "";
+    ask_burst(c, &burst);
+    add_text(words, sizeof words, "traffic: up to %" PRIu64 " %s at once, %" PRIu64 " a tick in the long run", burst,
+             plural(burst, "bit", "bits"), long_run_rate(c));
+    say_sentence(to, words);
     say_buckets(to, c, all_buckets);
 }
 
@@ -47,6 +56,8 @@ void about_file(const struct entry *e, char to[ABOUT_BYTES])
     *to = '\0';
     if (e->too_long)
         add_text(to, ABOUT_BYTES, "The file has more bytes than the longest profile, which has %d.", (int)DUCHRELIN_FILE_BYTES);
+    else if (e->code == DUCHRELIN_LENGTH)
+        add_text(to, ABOUT_BYTES, "The file has %zu %s.", e->bytes, plural(e->bytes, "byte", "bytes"));
     else if (e->code == DUCHRELIN_RANGE)
         add_text(to, ABOUT_BYTES, "In a file the one number that can be out of range is the rate of a port, by being 0.");
 }
@@ -63,14 +74,6 @@ void say_code(FILE *to, uint64_t code, const char *here)
     if (*here != '\0')
         say_headed(to, "  here", here);
     say_headed(to, "  what to do", duchrelin_code_advice(code));
-}
-
-static void say_sentence(FILE *to, const char *text)
-{
-    if (*text == '\0')
-        return;
-    indent(to);
-    put_lines(to, NAME_COLUMNS, NAME_COLUMNS, text);
 }
 
 static void say_trouble(FILE *to, const struct entry *e)

@@ -99,11 +99,10 @@ void entry_load(struct entry *e, const struct store *s, const char *name)
     if (!file_name(file, name))
         return;
     uint8_t bytes[DUCHRELIN_FILE_BYTES + 1]; /* a byte more than any profile has, so that a longer file is refused as one */
-    size_t count = 0;
-    e->error = read_file(s->folder, file, bytes, sizeof bytes, &count);
+    e->error = read_file(s->folder, file, bytes, sizeof bytes, &e->bytes);
     if (e->error == 0) {
-        e->too_long = count == sizeof bytes;
-        e->code = ask_read(bytes, count, &e->profile);
+        e->too_long = e->bytes == sizeof bytes;
+        e->code = ask_read(bytes, e->bytes, &e->profile);
     }
 }
 

@@ -15,7 +15,8 @@ struct store {
 struct entry {
     char *name;             /* visible */
     int error;              /* not 0: the file could not be read, and this says why */
-    int too_long;           /* the file is longer than any profile */
+    size_t bytes;           /* of the file, */
+    int too_long;           /* or it has more than any profile */
     uint64_t code;          /* the library's word on the file */
     struct profile profile; /* with code 0: what it holds */
     struct origin origin;

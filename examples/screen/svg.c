@@ -13,7 +13,7 @@ enum {
     BOTTOM = TOP + ROWS * CELL_HEIGHT,
     CAPTION_TOP = BOTTOM + 62,
     LINE_HEIGHT = 20,
-    LINE_CHARACTERS = 100,
+    LINE_CHARACTERS = 96,
     MOST_DOTS = 32 /* with so many ticks or fewer, each whole tick has its dot */
 };
 
@@ -40,7 +40,7 @@ static void put_text(FILE *to, const char *text)
 
 static void put_words(FILE *to, double x, double y, const char *look, const char *text)
 {
-    fprintf(to, "<text x=\"%.1f\" y=\"%.1f\" %s>", x, y, look);
+    fprintf(to, "<text x=\"%.1f\" y=\"%.1f\"%s%s>", x, y, *look == '\0' ? "" : " ", look);
     put_text(to, text);
     fputs("</text>\n", to);
 }

@@ -93,24 +93,23 @@ void add_text(char *to, size_t room, const char *format, ...)
 
 void put_lines(FILE *to, size_t at, size_t indent, const char *text)
 {
-    int first = 1;
-    while (*text != '\0') {
+    size_t gap = 0; /* the blanks before the word at hand */
+    for (size_t words = 0; *text != '\0'; words++) {
         size_t length = strcspn(text, " ");
         size_t wide = 0;
         for (size_t i = 0; i < length; i++)
             wide += !goes_on(text[i]);
-        if (!first && at + 1 + wide > LINE_COLUMNS) {
+        if (words > 0 && at + gap + wide > LINE_COLUMNS) {
             fprintf(to, "\n%*s", (int)indent, "");
             at = indent;
-        } else if (!first) {
-            fputc(' ', to);
-            at++;
+        } else {
+            fprintf(to, "%*s", (int)gap, "");
+            at += gap;
         }
         fwrite(text, 1, length, to);
         at += wide;
-        first = 0;
-        text += length;
-        text += strspn(text, " ");
+        gap = strspn(text + length, " ");
+        text += length + gap;
     }
     fputc('\n', to);
 }

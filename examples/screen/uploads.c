@@ -123,14 +123,15 @@ struct origin origin_of(const struct uploads *u, const char *name)
 
 char *origin_words(struct origin o)
 {
-    const char *author = *o.author == '\0' ? "nobody named" : o.author;
-    size_t room = strlen(author) + 80;
+    size_t room = strlen(o.author) + 80;
     char *words = need_memory(calloc(room, 1));
-    switch (o.standing) {
-    case KNOWN: add_text(words, room, "uploaded by %s (known)", author); break;
-    case NOT_KNOWN: add_text(words, room, "uploaded by %s (NOT KNOWN)", author); break;
-    case NOT_RECORDED: add_text(words, room, "uploaded by nobody knows whom (NOT KNOWN: not in uploads.txt)"); break;
-    case RECORDED_TWICE: add_text(words, room, "uploaded by %s or another (NOT KNOWN: twice in uploads.txt)", author); break;
-    }
+    if (o.standing == RECORDED_TWICE)
+        add_text(words, room, "author unclear, twice in uploads.txt (NOT KNOWN)");
+    else if (o.standing == NOT_RECORDED)
+        add_text(words, room, "author not recorded, not in uploads.txt (NOT KNOWN)");
+    else if (*o.author == '\0')
+        add_text(words, room, "author not recorded, left blank in uploads.txt (NOT KNOWN)");
+    else
+        add_text(words, room, "uploaded by %s (%s)", o.author, o.standing == KNOWN ? "known" : "NOT KNOWN");
     return words;
 }
