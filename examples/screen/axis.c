@@ -37,15 +37,12 @@ void axis_mark(struct axis a, uint64_t number, char to[MARK_BYTES])
         snprintf(to, MARK_BYTES, "%" PRIu64, number);
         return;
     }
-    int digits = 0;
-    uint64_t part = u.stands_for;
-    for (; a.step % part != 0 && digits < 3; part /= 10)
-        digits++;
-    if (digits == 0)
+    /* 8 steps at most reach past the unit, so a step that is not whole units is whole tenths of them. */
+    unsigned tenths = (unsigned)(number % u.stands_for / (u.stands_for / 10));
+    if (a.step % u.stands_for == 0)
         snprintf(to, MARK_BYTES, "%" PRIu64 "%c", number / u.stands_for, u.letter);
     else
-        snprintf(to, MARK_BYTES, "%" PRIu64 ".%0*" PRIu64 "%c", number / u.stands_for, digits, number % u.stands_for / part,
-                 u.letter);
+        snprintf(to, MARK_BYTES, "%" PRIu64 ".%u%c", number / u.stands_for, tenths % 10, u.letter);
 }
 
 double axis_place(struct axis a, double number, double length) { return number / (double)a.end * length; }

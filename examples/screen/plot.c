@@ -6,7 +6,7 @@
 
 #include "text.h"
 
-enum { LEAST_TICKS = 8 };
+enum { LEAST_TICKS = 4 };
 
 static int nearest(double place) { return (int)(place + 0.5); }
 static int column_of(const struct plot *p, uint64_t tick) { return nearest(axis_place(p->ticks, (double)tick, COLUMNS)); }
@@ -109,16 +109,19 @@ static void place_backlog(struct plot *p)
     int low = row_of(p, (double)p->measure.full_served), high = row_of(p, (double)p->measure.full_come);
     for (int row = low; row <= high; row++) {
         int far = 2 * row > low + high ? 2 * row - low - high : low + high - 2 * row;
-        try_place(p, l, row, column + 2, far, 0, &best);
+        for (int off = 0; off <= 8; off++)
+            try_place(p, l, row, column + 2 + off, far + 10 * off, 0, &best);
         try_place(p, l, row, column - 1 - length, far + 1, 1, &best);
     }
     for (int beyond = 1; beyond <= 3; beyond++) {
         try_place(p, l, low - beyond, column + 2, 50 + beyond, 0, &best);
         try_place(p, l, high + beyond, column - 1 - length, 60 + beyond, 1, &best);
+        try_place(p, l, high + 1 + beyond, column + 2, 70 + beyond, 0, &best);
     }
 }
 
-/* The delay's label: over the horizontal or under it, near its middle. The backlog's label is on the board while it is placed. */
+/* The delay's label: over the horizontal or under it, near its middle; or behind its end, where what is served has left its row. The
+ * backlog's label is on the board while it is placed. */
 static void place_delay(struct plot *p)
 {
     struct label *l = &p->delay;
@@ -126,6 +129,8 @@ static void place_delay(struct plot *p)
                           plural(p->measure.delay, "tick", "ticks"));
     int from = column_of(p, p->measure.late), to = column_of(p, p->measure.late + p->measure.delay), best = -1;
     int row = row_of(p, (double)p->measure.late_come), middle = (from + to - length + 1) / 2;
+    try_place(p, l, row, to + 2, 50, 0, &best);
+    try_place(p, l, row, to + 3, 51, 0, &best);
     for (int far = 0; far <= COLUMNS; far++)
         for (int side = -1; side <= 1; side += 2) {
             int column = middle + side * far;

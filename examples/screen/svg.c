@@ -146,24 +146,27 @@ static void put_label(FILE *to, const struct label *l, const char *anchor, doubl
     put_words(to, x, BOTTOM - l->row * CELL_HEIGHT + 4.5, look, l->text);
 }
 
-/* The two measures, each with a bar at either end, and their labels. */
+/* The two measures, each with a bar at either end. */
 static void put_measures(FILE *to, const struct plot *d)
 {
     const struct measure *m = &d->measure;
-    if (m->delay > 0) {
-        double x = x_of(d, (double)m->late), end = x_of(d, (double)(m->late + m->delay)), y = y_of(d, (double)m->late_come);
-        fprintf(to, "<path d=\"M%.1f %.1fv10m0 -5H%.1fm0 -5v10\" fill=\"none\" stroke=\"" DELAY_COLOUR "\" stroke-width=\"3\"/>\n", x,
-                y - 5, end);
-        double middle = LEFT + (d->delay.column + ((double)strlen(d->delay.text) - 1) / 2) * CELL_WIDTH;
-        put_label(to, &d->delay, "middle", middle, DELAY_COLOUR);
-    }
-    if (m->backlog > 0) {
-        double x = x_of(d, (double)m->full), y = y_of(d, (double)m->full_served), end = y_of(d, (double)m->full_come);
+    if (m->delay > 0)
+        fprintf(to, "<path d=\"M%.1f %.1fv10m0 -5H%.1fm0 -5v10\" fill=\"none\" stroke=\"" DELAY_COLOUR "\" stroke-width=\"3\"/>\n",
+                x_of(d, (double)m->late), y_of(d, (double)m->late_come) - 5, x_of(d, (double)(m->late + m->delay)));
+    if (m->backlog > 0)
         fprintf(to, "<path d=\"M%.1f %.1fh10m-5 0V%.1fm-5 0h10\" fill=\"none\" stroke=\"" BACKLOG_COLOUR "\" stroke-width=\"3\"/>\n",
-                x - 5, y, end);
-        int left = d->backlog.on_the_left;
-        put_label(to, &d->backlog, left ? "end" : "start", left ? x - 10 : x + 10, BACKLOG_COLOUR);
-    }
+                x_of(d, (double)m->full) - 5, y_of(d, (double)m->full_served), y_of(d, (double)m->full_come));
+}
+
+static void put_labels(FILE *to, const struct plot *d)
+{
+    const struct label *backlog = &d->backlog, *delay = &d->delay;
+    if (*delay->text != '\0')
+        put_label(to, delay, "middle", LEFT + (delay->column + ((double)strlen(delay->text) - 1) / 2) * CELL_WIDTH, DELAY_COLOUR);
+    if (*backlog->text != '\0' && backlog->on_the_left)
+        put_label(to, backlog, "end", LEFT + (backlog->column + (double)strlen(backlog->text)) * CELL_WIDTH, BACKLOG_COLOUR);
+    else if (*backlog->text != '\0')
+        put_label(to, backlog, "start", LEFT + (backlog->column - 1) * CELL_WIDTH, BACKLOG_COLOUR);
 }
 
 /* The names of the two lines, each with a piece of its line, and the authors to check. */
@@ -217,6 +220,7 @@ void picture_svg(const struct picture *p, FILE *to)
     put_dots(to, &p->plot);
     fputs("</g>\n", to);
     put_measures(to, &p->plot);
+    put_labels(to, &p->plot);
     put_captions(to, p);
     fputs("</svg>\n", to);
 }
