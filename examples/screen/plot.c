@@ -17,7 +17,7 @@ static void choose_axes(struct plot *p)
 {
     const struct measure *m = &p->measure;
     uint64_t ticks = m->late + m->delay > m->full ? m->late + m->delay : m->full;
-    ticks += ticks / 6;
+    ticks += ticks / 6 + 1;
     p->ticks = axis_for(ticks < LEAST_TICKS ? LEAST_TICKS : ticks);
     p->curve_end = p->ticks.end < LAST_TICK ? p->ticks.end : LAST_TICK;
     uint64_t bits = 0;
