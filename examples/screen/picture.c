@@ -3,6 +3,7 @@
 #include <inttypes.h>
 #include <string.h>
 
+#include "say.h"
 #include "text.h"
 
 #define ADD(to, ...) add_text((to), sizeof(to), __VA_ARGS__)
@@ -32,8 +33,10 @@ static void say_lines(struct picture *p, const struct route *r, size_t hop)
     ADD(name, "%s", r->traffic.name);
     ADD(p->traffic, "traffic: %s, %" PRIu64 " %s%s", name, d->curve.count, plural(d->curve.count, "bucket", "buckets"),
         hop > 1 ? ", as it leaves the hop before" : "");
-    ADD(p->served, "served: %" PRIu64 " %s a tick after %" PRIu64 " %s%s", d->server.rate, plural(d->server.rate, "bit", "bits"),
-        d->server.latency, plural(d->server.latency, "tick", "ticks"), hop == 0 && r->hop_count > 1 ? ", all ports as one" : "");
+    ADD(p->served, "served: ");
+    add_server(p->served, sizeof p->served, d->server);
+    if (hop == 0 && r->hop_count > 1)
+        ADD(p->served, ", all ports as one");
     say_unit(p, axis_unit(d->bits));
     if (axis_unit(d->ticks).letter != axis_unit(d->bits).letter)
         say_unit(p, axis_unit(d->ticks));

@@ -44,11 +44,17 @@ static void say_curve(FILE *to, const struct curve *c, int all_buckets)
     say_buckets(to, c, all_buckets);
 }
 
+void add_server(char *to, size_t room, struct server s)
+{
+    add_text(to, room, "%" PRIu64 " %s a tick after a latency of %" PRIu64 " %s", s.rate, plural(s.rate, "bit", "bits"), s.latency,
+             plural(s.latency, "tick", "ticks"));
+}
+
 static void say_server(FILE *to, struct server s)
 {
-    indent(to);
-    fprintf(to, "port: serves %" PRIu64 " %s a tick after a latency of %" PRIu64 " %s\n", s.rate, plural(s.rate, "bit", "bits"),
-            s.latency, plural(s.latency, "tick", "ticks"));
+    char words[ABOUT_BYTES] = "port: serves ";
+    add_server(words, sizeof words, s);
+    say_sentence(to, words);
 }
 
 void about_file(const struct entry *e, char to[ABOUT_BYTES])

@@ -22,7 +22,7 @@ damage() { # damage FOLDER: fills it
   mkfifo "$to/pipe.profile"
   mkdir "$to/folder.profile"
   ln -s nowhere "$to/dangling.profile"
-  cp "$good/spur-gateway.profile" "$to/"$'red\e[31m\u202e.profile'
+  cp "$good/spur-gateway.profile" "$to/"$'red\e[31m\xe2\x80\xae.profile'
   cp "$good/spur-gateway.profile" "$to/nobody.profile"
   cp "$good/spur-gateway.profile" "$to/twice.profile"
   cp "$good/spur-gateway.profile" "$to/stranger.profile"
