@@ -107,7 +107,8 @@ static void try_measures(void)
 static void try_limits(void)
 {
     const uint64_t rates = (1 << 20) - 1, bursts = (UINT64_C(1) << 40) - 1;
-    const struct curve curves[] = {{1, {0, 0}}, {1, {0, 1}}, {1, {rates, 0}}, {1, {rates, bursts}}, {1, {0, bursts}}, {2, {2, 0, 1, bursts}}};
+    const struct curve curves[] = {{1, {0, 0}},          {1, {0, 1}},      {1, {rates, 0}},
+                                   {1, {rates, bursts}}, {1, {0, bursts}}, {2, {2, 0, 1, bursts}}};
     const struct server servers[] = {{1, 0}, {1, 1}, {1, rates}, {rates, 0}, {rates, rates}};
     int seen = 1, answered = 0;
     for (size_t i = 0; i < sizeof curves / sizeof *curves; i++)
@@ -160,7 +161,8 @@ static void try_visible(const char *text, const char *shown, const char *what)
 static void try_text(void)
 {
     try_visible("plain | text", "plain | text", "plain text stays");
-    try_visible("J\xc3\xbcrgen \xe6\xb0\xb4 \xf0\x9f\x94\x8c", "J\xc3\xbcrgen \xe6\xb0\xb4 \xf0\x9f\x94\x8c", "characters of all lengths stay");
+    static const char long_ones[] = "J\xc3\xbcrgen \xe6\xb0\xb4 \xf0\x9f\x94\x8c";
+    try_visible(long_ones, long_ones, "characters of all lengths stay");
     try_visible("\x1b[31mred\x07", "?[31mred?", "control bytes go");
     try_visible("\xc2\x9b" "2J", "??2J", "control characters of two bytes go");
     try_visible("a\xe2\x80\xaetxt", "a???txt", "characters that turn the writing go");

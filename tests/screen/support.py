@@ -5,7 +5,13 @@ import subprocess
 import sys
 
 STORE = "examples/store"
-SHOWN = ["list", "show camera-hd", "route meter spur-coupler spur-gateway", "route camera-hd spur-coupler", "route camera-hd hub-100m radio-50m"]
+SHOWN = [
+    "list",
+    "show camera-hd",
+    "route meter spur-coupler spur-gateway",
+    "route camera-hd spur-coupler",
+    "route camera-hd hub-100m radio-50m",
+]
 
 
 def said(arguments):
