@@ -79,7 +79,9 @@ static int draw(const struct options *o, struct route *r)
     struct picture *p = need_memory(malloc(sizeof *p));
     int status = ANSWERED;
     r->code = picture_make(p, r, o->hop);
-    if (r->code != DUCHRELIN_ANSWERED) {
+    if (r->code != DUCHRELIN_ANSWERED) { /* not after an answered route; were it so, it would be told as any refusal is */
+        r->place = (o->hop > 0 ? o->hop : r->hop_count) + 1;
+        r->asked = DELAY;
         say_refusal(r);
         status = REFUSED;
     } else if (o->svg != NULL) {
