@@ -23,6 +23,8 @@
  *
  * Every call ends. None allocates, keeps anything between calls or calls the system, so calls on separate lists may run at the
  * same time. duchrelin_sum takes about 66 KiB of stack, each other function less than 4 KiB.
+ *
+ * duchrelin_words.h has each code in words. examples/header.c runs the examples that stand below.
  */
 #ifndef DUCHRELIN_H
 #define DUCHRELIN_H
@@ -101,53 +103,67 @@ typedef struct duchrelin_written {
     uint64_t bytes;
 } duchrelin_written;
 
-/* The list in normal form with the same value at every time. The raw buckets, 1 to 64, may stand in any order and repeat. */
+/* The list in normal form with the same value at every time. The raw buckets, 1 to 64, may stand in any order and repeat.
+ * Example: {3,20, 10,2, 10,2, 5,15, 3,25} gives count 2 and {10,2, 3,20}. */
 duchrelin_answer duchrelin_normalise(const uint64_t *raw, size_t raw_numbers, uint64_t *out, size_t out_numbers);
 
-/* The curve's value in bits at a tick from 0 to 2^40-1: the least of rate * tick + burst over its buckets. */
+/* The curve's value in bits at a tick from 0 to 2^40-1: the least of rate * tick + burst over its buckets.
+ * Example: {10,2, 3,20} gives 2 at tick 0, 22 at tick 2 and 29 at tick 3. */
 duchrelin_figure duchrelin_value(const uint64_t *curve, size_t curve_numbers, uint64_t tick);
 
-/* The lower of the two curves at every time: normal form of the buckets of both. */
+/* The lower of the two curves at every time: normal form of the buckets of both.
+ * Example: {10,2} and {3,20} give count 2 and {10,2, 3,20}. */
 duchrelin_answer duchrelin_lower(const uint64_t *f, size_t f_numbers, const uint64_t *g, size_t g_numbers,
                                  uint64_t *out, size_t out_numbers);
 
-/* The two curves added: normal form of all buckets (r + r', b + b'), one from each. */
+/* The two curves added: normal form of all buckets (r + r', b + b'), one from each.
+ * Example: {10,2, 3,20} and {4,0, 2,2} give count 3 and {14,2, 12,4, 5,22}. */
 duchrelin_answer duchrelin_sum(const uint64_t *f, size_t f_numbers, const uint64_t *g, size_t g_numbers,
                                uint64_t *out, size_t out_numbers);
 
-/* The curve shaped by a link of rate 1 to 2^20-1: the lower of the curve and the bucket (link_rate, 0). */
+/* The curve shaped by a link of rate 1 to 2^20-1: the lower of the curve and the bucket (link_rate, 0).
+ * Example: {3,20} and a link of rate 10 give count 2 and {10,0, 3,20}. */
 duchrelin_answer duchrelin_shape(const uint64_t *curve, size_t curve_numbers, uint64_t link_rate,
                                  uint64_t *out, size_t out_numbers);
 
-/* The server that joins the next one: the smaller rate, the latencies added. */
+/* The server that joins the next one: the smaller rate, the latencies added.
+ * Example: (6, 4) and then (5, 2) give (5, 6). */
 duchrelin_server duchrelin_join(uint64_t rate, uint64_t latency, uint64_t next_rate, uint64_t next_latency);
 
-/* The curve behind a server: what it lets through of traffic that keeps to the curve. */
+/* The curve behind a server: what it lets through of traffic that keeps to the curve.
+ * Example: {10,2, 3,20} behind (6, 1) gives count 2 and {6,17, 3,23}. */
 duchrelin_answer duchrelin_behind(const uint64_t *curve, size_t curve_numbers, uint64_t rate, uint64_t latency,
                                   uint64_t *out, size_t out_numbers);
 
-/* The most bits that wait at the server at any tick. */
+/* The most bits that wait at the server at any tick.
+ * Example: {10,2, 3,20} and (6, 1) give 17. */
 duchrelin_figure duchrelin_backlog(const uint64_t *curve, size_t curve_numbers, uint64_t rate, uint64_t latency);
 
-/* The fewest ticks by which all that has come by a tick is served, at every tick. */
+/* The fewest ticks by which all that has come by a tick is served, at every tick.
+ * Example: {10,2, 3,20} and (6, 1) give 3. */
 duchrelin_figure duchrelin_delay(const uint64_t *curve, size_t curve_numbers, uint64_t rate, uint64_t latency);
 
-/* The server that is left beside cross traffic: with its curve's last bucket (r, b), rate - r, and latency + b / rate rounded up. */
+/* The server that is left beside cross traffic: with its curve's last bucket (r, b), rate - r, and latency + b / rate, the quotient
+ * rounded up. Example: (6, 1) beside {10,2, 3,20} gives (3, 5). */
 duchrelin_server duchrelin_residual(uint64_t rate, uint64_t latency, const uint64_t *cross, size_t cross_numbers);
 
-/* The one profile that a file holds. A curve's list is written to `out`; a server file leaves `out` unread and unwritten. */
+/* The one profile that a file holds. A curve's list is written to `out`; a server file leaves `out` unread and unwritten.
+ * Example: the bytes 12 00 00 60 00 01 give kind 2 and the server (6, 1). */
 duchrelin_profile duchrelin_read(const uint8_t *file, size_t file_bytes, uint64_t *out, size_t out_numbers);
 
-/* A curve as a file. */
+/* A curve as a file: (14 + 60 * count) / 8 bytes, rounded up.
+ * Example: {10,2} gives 10 bytes, 11 00 00 02 80 00 00 00 00 80. */
 duchrelin_written duchrelin_write_curve(const uint64_t *curve, size_t curve_numbers, uint8_t *buffer, size_t buffer_bytes);
 
-/* A server as a file, of 6 bytes. */
+/* A server as a file, of 6 bytes.
+ * Example: (6, 1) gives 12 00 00 60 00 01. */
 duchrelin_written duchrelin_write_server(uint64_t rate, uint64_t latency, uint8_t *buffer, size_t buffer_bytes);
 
 /* The report of a route as text: `input` is a curve's file, then 1 to 32 servers' files, back to back. A line `hop N X Y` for each
  * hop (its number, backlog and delay), then `route X Y` for the joined server over the first curve; or, where anything is refused,
  * the one line `refused C at K`, with the code and which profile it is, the curve being 1. A refusal inside the route is a text,
- * so its code is 0: the only code here is ROOM. */
+ * so its code is 0: the only code here is ROOM. Example: the files of {10,2, 3,20}, (6, 4) and (5, 2) give 33 bytes,
+ * "hop 1 32 6\nhop 2 38 9\nroute 38 9\n". */
 duchrelin_written duchrelin_route(const uint8_t *input, size_t input_bytes, uint8_t *text, size_t text_bytes);
 
 #ifdef __cplusplus

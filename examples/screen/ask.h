@@ -1,0 +1,53 @@
+/*
+ * The screen asks the library here and nowhere else: one function for each call. Each answers the call's code, and on 0 leaves the
+ * answer in `to`. A curve is known by `struct curve`, a port by `struct server`; how many numbers a bucket has and what a port is
+ * passed as is said in ask.c alone.
+ */
+#ifndef ASK_H
+#define ASK_H
+
+#include "duchrelin.h"
+
+/* A curve in normal form. */
+struct curve {
+    uint64_t count; /* of buckets */
+    uint64_t numbers[DUCHRELIN_CURVE_NUMBERS];
+};
+
+/* A port. */
+struct server {
+    uint64_t rate, latency;
+};
+
+/* What a file holds: by its kind, the one or the other. */
+struct profile {
+    uint64_t kind;
+    struct curve curve;
+    struct server server;
+};
+
+/* The last tick at which the library tells a curve's value. */
+#define LAST_TICK ((UINT64_C(1) << 40) - 1)
+
+/* Rate and burst of a curve's bucket, counted from 0; the last bucket's rate is the traffic's in the long run. */
+uint64_t bucket_rate(const struct curve *c, uint64_t bucket);
+uint64_t bucket_burst(const struct curve *c, uint64_t bucket);
+uint64_t long_run_rate(const struct curve *c);
+
+/* The profile in a file. */
+uint64_t ask_read(const uint8_t *file, size_t bytes, struct profile *to);
+
+/* The bits that can come at once; and those that can come within a count of ticks, of 0 ticks those at once. */
+uint64_t ask_burst(const struct curve *c, uint64_t *to);
+uint64_t ask_come(const struct curve *c, uint64_t tick, uint64_t *to);
+
+/* The bits that a port has served by a tick. */
+uint64_t ask_served(struct server s, uint64_t tick, uint64_t *to);
+
+/* The two ports as one; the curve behind a port; the most bits that wait there; the delay there. */
+uint64_t ask_join(struct server s, struct server next, struct server *to);
+uint64_t ask_behind(const struct curve *c, struct server s, struct curve *to);
+uint64_t ask_backlog(const struct curve *c, struct server s, uint64_t *to);
+uint64_t ask_delay(const struct curve *c, struct server s, uint64_t *to);
+
+#endif

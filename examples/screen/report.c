@@ -1,0 +1,121 @@
+#include "report.h"
+
+#include <inttypes.h>
+#include <stdlib.h>
+#include <string.h>
+
+#include "duchrelin_words.h"
+#include "say.h"
+#include "screen.h"
+#include "text.h"
+
+/* A profile that is named twice in a route is spoken of once. */
+static int named_before(const struct route *r, size_t place)
+{
+    for (size_t before = 1; before < place; before++)
+        if (strcmp(route_entry(r, before)->name, route_entry(r, place)->name) == 0)
+            return 1;
+    return 0;
+}
+
+void say_authors(FILE *to, const struct route *r)
+{
+    int unknown = 0;
+    for (size_t place = 1; place <= r->hop_count + 1; place++) {
+        const struct entry *e = route_entry(r, place);
+        if (e->origin.standing == KNOWN || named_before(r, place))
+            continue;
+        if (unknown++ == 0)
+            fprintf(to, "STOP: check who uploaded these before you use a figure.\n");
+        char *words = origin_words(e->origin);
+        fprintf(to, "  %s: ", e->name);
+        put_lines(to, characters(e->name) + 4, 6, words);
+        free(words);
+    }
+    if (unknown == 0)
+        fprintf(to, "Every profile of this route was uploaded by an author that is known.\n");
+}
+
+/* What the refusal comes from, as far as the screen can tell. */
+static void about_refusal(const struct route *r, char to[ABOUT_BYTES])
+{
+    const struct entry *e = route_entry(r, r->place);
+    *to = '\0';
+    if (r->asked == READING && e->code == DUCHRELIN_ANSWERED)
+        add_text(to, ABOUT_BYTES, "It holds a %s, and %s is due there.",
+                 e->profile.kind == DUCHRELIN_KIND_CURVE ? "traffic curve" : "port", r->place == 1 ? "traffic" : "a port");
+    else if (r->asked == READING)
+        about_file(e, to);
+    else if (r->code == DUCHRELIN_UNBOUNDED)
+        add_text(to, ABOUT_BYTES,
+                 "The traffic brings %" PRIu64 " bits a tick in the long run, and this port serves %" PRIu64 " bits a tick.",
+                 long_run_rate(&r->hops[r->place - 2].enters), r->hops[r->place - 2].server.rate);
+    else if (r->asked == JOINING)
+        add_text(to, ABOUT_BYTES, "The latencies of the ports up to this one, added, are too large.");
+    else if (r->asked == BEHIND)
+        add_text(to, ABOUT_BYTES, "The bursts behind this port are too large.");
+}
+
+void say_refusal(const struct route *r)
+{
+    char about[ABOUT_BYTES];
+    about_refusal(r, about);
+    complain("the route is refused at profile %zu, '%s': %" PRIu64 " %s", r->place, route_entry(r, r->place)->name, r->code,
+             duchrelin_code_name(r->code));
+    say_code(stderr, r->code, about);
+    fprintf(stderr, "No figure is given. The profiles are as they were.\n");
+}
+
+static int name_columns(const struct route *r)
+{
+    size_t most = characters("the route");
+    for (size_t i = 0; i < r->hop_count; i++) {
+        size_t here = characters(r->hops[i].entry.name);
+        most = here > most ? here : most;
+    }
+    return (int)most;
+}
+
+/* printf pads by bytes; this pads by characters. */
+static void put_name(const char *name, int columns) { printf("%s%*s", name, columns - (int)characters(name), ""); }
+
+static void say_figures(const struct route *r)
+{
+    int columns = name_columns(r);
+    printf("hop  ");
+    put_name("port", columns);
+    printf("  %8s  %8s  %14s  %14s\n", "rate", "latency", "backlog (bits)", "delay (ticks)");
+    for (size_t i = 0; i < r->hop_count; i++) {
+        const struct hop *h = &r->hops[i];
+        printf("%3zu  ", i + 1);
+        put_name(h->entry.name, columns);
+        printf("  %8" PRIu64 "  %8" PRIu64 "  %14" PRIu64 "  %14" PRIu64 "\n", h->server.rate, h->server.latency, h->backlog,
+               h->delay);
+    }
+    printf("     ");
+    put_name("the route", columns);
+    printf("  %8" PRIu64 "  %8" PRIu64 "  %14" PRIu64 "  %14" PRIu64 "\n", r->joined.rate, r->joined.latency, r->backlog, r->delay);
+}
+
+/* The line to write down: it names one port or two, and of more the first and the last. */
+static void say_line(const struct route *r)
+{
+    const char *first = r->hops[0].entry.name, *last = r->hops[r->hop_count - 1].entry.name;
+    printf("WRITE DOWN: delay %" PRIu64 " %s, for %s through ", r->delay, plural(r->delay, "tick", "ticks"), r->traffic.name);
+    if (r->hop_count == 1)
+        printf("%s\n", first);
+    else if (r->hop_count == 2)
+        printf("%s and %s\n", first, last);
+    else
+        printf("%zu ports, %s to %s\n", r->hop_count, first, last);
+}
+
+void say_report(const struct route *r)
+{
+    printf("Route of %s through %zu %s\n\n", r->traffic.name, r->hop_count, plural(r->hop_count, "port", "ports"));
+    say_authors(stdout, r);
+    printf("\n");
+    say_figures(r);
+    printf("\n");
+    say_line(r);
+}

@@ -1,0 +1,40 @@
+/* A route: traffic through ports, hop by hop and as one. */
+#ifndef ROUTE_H
+#define ROUTE_H
+
+#include "store.h"
+
+/* What is asked at a profile, in the order of asking. */
+enum question { READING, JOINING, BACKLOG, DELAY, BEHIND, QUESTIONS };
+
+/* A hop: its port, the curve that enters it, and its two figures. */
+struct hop {
+    struct entry entry;
+    struct server server;
+    struct curve enters;
+    uint64_t backlog, delay;
+};
+
+struct route {
+    struct entry traffic;
+    size_t hop_count;
+    struct hop hops[DUCHRELIN_MOST_SERVERS];
+    struct server joined; /* all ports as one, and the first curve's figures there */
+    uint64_t backlog, delay;
+    uint64_t code;       /* 0, or the number of the earliest refusal, */
+    size_t place;        /* its profile, the traffic being 1, */
+    enum question asked; /* and what had been asked */
+};
+
+/* Loads the traffic and the ports by their names: one of traffic, then 1 to 32 ports. Complains and answers FAILED where one cannot be
+ * read at all. */
+int route_load(struct route *r, const struct store *s, char **names, size_t count);
+void route_free(struct route *r);
+
+/* Asks the library for all figures. ANSWERED, or REFUSED: then r has the code and the place, and no figure counts. */
+int route_run(struct route *r);
+
+/* The entry of a profile by its place, the traffic being 1. */
+const struct entry *route_entry(const struct route *r, size_t place);
+
+#endif

@@ -1,0 +1,22 @@
+/* Profiles and refusals in words. */
+#ifndef SAY_H
+#define SAY_H
+
+#include <stdio.h>
+
+#include "store.h"
+
+/* A profile with what it holds, in words and numbers, and who uploaded it. All buckets of a curve, or the first few. */
+void say_entry(FILE *to, const struct entry *e, int all_buckets);
+
+/* Adds to a text what a port does: "6 bits a tick after a latency of 4 ticks". */
+void add_server(char *to, size_t room, struct server s);
+
+/* What a code means and what to do about it, each under its own heading; between them, where `here` is not "", what it comes from. */
+void say_code(FILE *to, uint64_t code, const char *here);
+
+/* What the screen can tell about a refused file beyond its code; "" where that is nothing. */
+enum { ABOUT_BYTES = 256 };
+void about_file(const struct entry *e, char to[ABOUT_BYTES]);
+
+#endif
