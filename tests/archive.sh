@@ -14,9 +14,24 @@ need() { # need TOOL..
   done
 }
 
+# .ci/run builds the archive and the programs once, and says so by this variable.
+built() { # built FILE
+  [ "${DUCHRELIN_ARCHIVE_BUILT:-0}" = 1 ] && [ -f "$1" ]
+}
+
 build_archive() { # proves what the library needs, and writes the archive
+  built "$archive" && return
+  need rt
   rm -f "$archive"
   rt staticlib duchrelin || give_up "the library is not built"
+}
+
+build_program() { # build_program NAME: proves what it needs, and writes target/bin/NAME
+  built "target/bin/$1" && return
+  need rt
+  rm -f "target/bin/$1"
+  rt check "$1" || give_up "the program $1 is not built"
+  [ -x "target/bin/$1" ] || give_up "no program target/bin/$1"
 }
 
 run_tests() { # run_tests COMMAND..: its last line is 'N passed, M failed'; ends with 0 only if all passed
