@@ -83,6 +83,8 @@ static void passing(void)
     passes("P3's curve at (5,0): a bucket beside the crossing is lowest between ticks alone", between, PORT(5, 0), CURVE(5, 0, 0, 5), 0, 0);
     passes("P3's curve at (5,1)", between, PORT(5, 1), CURVE(0, 5), 5, 1);
     passes("P3's curve at (4,0)", between, PORT(4, 0), CURVE(4, 1, 0, 5), 1, 1);
+    /* The values are 0, 5, 5, ..: 2 above the rate 3 at tick 1. (4,3), which is lowest from 3/16 to 1/2, would be 3 at tick 0. */
+    passes("the bucket before the crossing is lowest between ticks alone", CURVE(20, 0, 4, 3, 0, 5), PORT(3, 0), CURVE(3, 2, 0, 5), 2, 1);
     /* The values are 0, 3, 3, ..: (3,0) and (0,3) cover (1,2) at 1. */
     passes("several buckets are covered by the server's own", CURVE(8, 0, 3, 1, 1, 2, 0, 3), PORT(3, 0), CURVE(3, 0, 0, 3), 0, 0);
 }

@@ -18,7 +18,7 @@ from drawing import rng
 from library import BYTES_OUT, CALLS, NOTHING_OUT
 from rules import (
     BURST_END, COUNT, CURVE_NUMBERS, FORM, HEADER, LARGE, LATENCY_END, LENGTH, MOST_BUCKETS, MOST_SERVERS, PAD, RANGE, UNBOUNDED,
-    Server, curve_list, raw_list,
+    NO_SERVER, Server, curve_list, raw_list,
 )
 
 C = [(10, 2), (3, 20)]
@@ -107,41 +107,41 @@ def figures(tally):
     server_6_1, curve_10_2 = bytes.fromhex("120000600001"), bytes.fromhex("11000002800000000080")
     p12 = profiles.curve_file(C) + profiles.server_file(Server(6, 4)) + profiles.server_file(Server(5, 2))
     p12_text = b"hop 1 32 6\nhop 2 38 9\nroute 38 9\n"
-    sixty_four = raw([(7, 9)] * 64)
+    sixty_four, most = raw([(7, 9)] * 64), Server(1, LATENCY_END - 1)
     table = [
         ("P1", "normalise", [p1], (0, 2), curve(C)),
         ("P2", "normalise", [raw([(4, 0), (3, 1), (2, 2)])], (0, 2), curve([(4, 0), (2, 2)])),
         ("P3", "normalise", [raw([(10, 0), (4, 2), (0, 5)])], (0, 3), curve([(10, 0), (4, 2), (0, 5)])),
         ("P4", "sum", [curve(C), curve([(4, 0), (2, 2)])], (0, 3), curve([(14, 2), (12, 4), (5, 22)])),
-        ("P5, behind", "behind", [curve(C), 6, 1], (0, 2), curve([(6, 17), (3, 23)])),
-        ("P5, backlog", "backlog", [curve(C), 6, 1], (0, 17), None),
-        ("P5, delay", "delay", [curve(C), 6, 1], (0, 3), None),
-        ("P6, behind", "behind", [curve(C), 6, 4], (0, 1), curve(behind_6_4)),
-        ("P6, backlog", "backlog", [curve(C), 6, 4], (0, 32), None),
-        ("P6, delay", "delay", [curve(C), 6, 4], (0, 6), None),
-        ("P7, second hop", "behind", [curve(behind_6_4), 5, 2], (0, 1), curve([(3, 38)])),
-        ("P7, delay of the second hop", "delay", [curve(behind_6_4), 5, 2], (0, 9), None),
-        ("P7, joined", "join", [6, 4, 5, 2], (0, 5, 6), None),
-        ("P7, one step", "behind", [curve(C), 5, 6], (0, 1), curve([(3, 38)])),
-        ("P7, delay of one step", "delay", [curve(C), 5, 6], (0, 9), None),
-        ("P8, behind", "behind", [curve([(5, 7)]), 5, 2], (0, 1), curve([(5, 17)])),
-        ("P8, delay", "delay", [curve([(5, 7)]), 5, 2], (0, 4), None),
-        ("P8, refused by behind", "behind", [curve([(6, 7)]), 5, 2], (UNBOUNDED, 0), []),
-        ("P8, refused by backlog", "backlog", [curve([(6, 7)]), 5, 2], (UNBOUNDED, 0), None),
-        ("P8, refused by delay", "delay", [curve([(6, 7)]), 5, 2], (UNBOUNDED, 0), None),
-        ("P9, backlog of nothing", "backlog", [curve([(0, 0)]), 5, 2], (0, 0), None),
-        ("P9, delay of nothing", "delay", [curve([(0, 0)]), 5, 2], (0, 0), None),
-        ("P9, backlog", "backlog", [curve([(5, 0)]), 10, 3], (0, 15), None),
-        ("P9, delay", "delay", [curve([(5, 0)]), 10, 3], (0, 3), None),
-        ("P10", "residual", [6, 1, curve(C)], (0, 3, 5), None),
-        ("P11, server written", "write_server", [6, 1], (0, 6), server_6_1),
-        ("P11, server read", "read", [server_6_1], (0, 2, 0, 6, 1), []),
+        ("P5, behind", "behind", [curve(C), *Server(6, 1)], (0, 2), curve([(6, 17), (3, 23)])),
+        ("P5, backlog", "backlog", [curve(C), *Server(6, 1)], (0, 17), None),
+        ("P5, delay", "delay", [curve(C), *Server(6, 1)], (0, 3), None),
+        ("P6, behind", "behind", [curve(C), *Server(6, 4)], (0, 1), curve(behind_6_4)),
+        ("P6, backlog", "backlog", [curve(C), *Server(6, 4)], (0, 32), None),
+        ("P6, delay", "delay", [curve(C), *Server(6, 4)], (0, 6), None),
+        ("P7, second hop", "behind", [curve(behind_6_4), *Server(5, 2)], (0, 1), curve([(3, 38)])),
+        ("P7, delay of the second hop", "delay", [curve(behind_6_4), *Server(5, 2)], (0, 9), None),
+        ("P7, joined", "join", [*Server(6, 4), *Server(5, 2)], (0, *Server(5, 6)), None),
+        ("P7, one step", "behind", [curve(C), *Server(5, 6)], (0, 1), curve([(3, 38)])),
+        ("P7, delay of one step", "delay", [curve(C), *Server(5, 6)], (0, 9), None),
+        ("P8, behind", "behind", [curve([(5, 7)]), *Server(5, 2)], (0, 1), curve([(5, 17)])),
+        ("P8, delay", "delay", [curve([(5, 7)]), *Server(5, 2)], (0, 4), None),
+        ("P8, refused by behind", "behind", [curve([(6, 7)]), *Server(5, 2)], (UNBOUNDED, 0), []),
+        ("P8, refused by backlog", "backlog", [curve([(6, 7)]), *Server(5, 2)], (UNBOUNDED, 0), None),
+        ("P8, refused by delay", "delay", [curve([(6, 7)]), *Server(5, 2)], (UNBOUNDED, 0), None),
+        ("P9, backlog of nothing", "backlog", [curve([(0, 0)]), *Server(5, 2)], (0, 0), None),
+        ("P9, delay of nothing", "delay", [curve([(0, 0)]), *Server(5, 2)], (0, 0), None),
+        ("P9, backlog", "backlog", [curve([(5, 0)]), *Server(10, 3)], (0, 15), None),
+        ("P9, delay", "delay", [curve([(5, 0)]), *Server(10, 3)], (0, 3), None),
+        ("P10", "residual", [*Server(6, 1), curve(C)], (0, *Server(3, 5)), None),
+        ("P11, server written", "write_server", [*Server(6, 1)], (0, 6), server_6_1),
+        ("P11, server read", "read", [server_6_1], (0, 2, 0, *Server(6, 1)), []),
         ("P11, curve written", "write_curve", [curve([(10, 2)])], (0, 10), curve_10_2),
-        ("P11, curve read", "read", [curve_10_2], (0, 1, 1, 0, 0), curve([(10, 2)])),
+        ("P11, curve read", "read", [curve_10_2], (0, 1, 1, *NO_SERVER), curve([(10, 2)])),
         ("P12", "route", [p12], (0, len(p12_text)), p12_text),
         ("shape {(3,20)} by 10", "shape", [curve([(3, 20)]), 10], (0, 2), curve([(10, 0), (3, 20)])),
-        ("join (1, 2^20-1) with (1, 0)", "join", [1, LATENCY_END - 1, 1, 0], (0, 1, LATENCY_END - 1), None),
-        ("join (1, 2^20-1) with (1, 1)", "join", [1, LATENCY_END - 1, 1, 1], (LARGE, 0, 0), None),
+        ("join (1, 2^20-1) with (1, 0)", "join", [*most, *Server(1, 0)], (0, *most), None),
+        ("join (1, 2^20-1) with (1, 1)", "join", [*most, *Server(1, 1)], (LARGE, *NO_SERVER), None),
         ("64 raw buckets", "normalise", [sixty_four], (0, 1), curve([(7, 9)])),
         ("65 raw buckets", "normalise", [sixty_four + raw([(7, 9)])], (COUNT, 0), []),
         ("burst 2^40-1", "normalise", [raw([(0, BURST_END - 1)])], (0, 1), curve([(0, BURST_END - 1)])),
@@ -203,8 +203,8 @@ def at_port(curve, chance):
 def beside(curve, chance):
     """A server's two numbers, then a cross curve's list."""
     def draw():
-        numbers, rate, latency = at_port(curve, chance)()
-        return [rate, latency, numbers]
+        numbers, *port = at_port(curve, chance)()
+        return port + [numbers]
 
     return draw
 
@@ -236,6 +236,27 @@ def sum_of_many_pairs():
     return [curve_list(drawing.curve_of(rng.randint(30, 64), 0, 0, stock)) for _ in range(2)]
 
 
+def burst_at_the_end():
+    """A curve and a server: the last burst behind it is 2^40-1 or 2^40, or beside them."""
+    curve = drawing.curve_of(rng.randint(1, 5), *rng.choice([(4, 3), (2**37, 2**17)]))
+    curve = [(rate + more, burst) for more in [rng.choice([0, 1, 5])] for rate, burst in curve]
+    server = drawing.server_for(curve)
+    server = drawing.clamped(server._replace(rate=max(server.rate, curve[-1][0])))
+    last_rate, last_burst = curve[-1]
+    more = BURST_END - 1 + rng.randint(-1, 1) - last_burst - last_rate * server.latency
+    more = max(0, min(more, BURST_END - 1 - last_burst))
+    return [curve_list([(rate, burst + more) for rate, burst in curve]), *server]
+
+
+def latency_at_the_end():
+    """A server and a cross curve: the latency that is left is 2^20-1 or 2^20, or beside them."""
+    rate = rng.choice([1, 2, 3, rng.randint(1, 2000), rng.randrange(1, 2**20)])
+    quotient = rng.randrange(LATENCY_END)
+    burst = min(BURST_END - 1, max(0, rate * quotient + rng.choice([-1, 0, 0, 1])))
+    latency = LATENCY_END - 1 - quotient + rng.randint(-1, 1)
+    return [*drawing.clamped(Server(rate, latency)), curve_list([(rng.randrange(rate), burst)])]
+
+
 def joining():
     """Two servers, some with latencies that add up to the end of the range or to one less."""
     first, second = drawing.any_server(), drawing.any_server()
@@ -262,12 +283,14 @@ def campaigns(tally):
     run("join", 3000, joining, "join")
     run("behind, small curves", 4000, at_port(small, 0.3), "behind")
     run("behind, long curves", 120, at_port(large, 0.15), "behind")
+    run("behind, bursts at the end of their range", 1000, burst_at_the_end, "behind")
     run("backlog, small curves", 3000, at_port(small, 0.3), "backlog")
     run("backlog, long curves", 80, at_port(large, 0.15), "backlog")
     run("delay, small curves", 3000, at_port(small, 0.3), "delay")
     run("delay, long curves", 80, at_port(large, 0.15), "delay")
     run("residual, small curves", 3000, beside(small, 0.3), "residual")
     run("residual, long curves", 60, beside(large, 0.15), "residual")
+    run("residual, latencies at the end of their range", 1000, latency_at_the_end, "residual")
     run("read, files of small profiles", 5000, lambda: [drawing.some_file(small(), 0.6)], "read")
     run("read, long files", 100, lambda: [drawing.some_file(large(), 0.5)], "read")
     run("write_curve, small curves", 2000, lambda: [drawing.as_curve(small(), 0.3)], "write_curve")
@@ -286,10 +309,10 @@ def every_length(tally):
         ("lower", [curve_list(full[0::2]), curve_list(full[1::2])]),
         ("sum", [curve_list(full[:30]), curve_list(C)]),
         ("shape", [curve_list(full[1:]), full[0][0]]),
-        ("behind", [curve_list(full), full[40][0], 1]),
+        ("behind", [curve_list(full), *Server(full[40][0], 1)]),
         ("read", [profiles.curve_file(full)]),
         ("write_curve", [curve_list(full)]),
-        ("write_server", [6, 1]),
+        ("write_server", [*Server(6, 1)]),
         ("route", [route]),
     ]:
         tally.every_length(name, operands)

@@ -21,21 +21,19 @@ def value(curve, time):
 def useful(bucket, others):
     """Whether the open interval of positive times at which the bucket lies strictly below every different one is not empty."""
     rate, burst = bucket
-    start, end = Fraction(0), None
-    for other in others:
-        if other == bucket:
-            continue
-        other_rate, other_burst = other
-        if other_rate == rate:
-            if other_burst < burst:
-                return False
-            continue
-        crossing = Fraction(burst - other_burst, other_rate - rate)
-        if other_rate > rate:
-            start = max(start, crossing)
-        elif end is None or crossing < end:
-            end = crossing
-        if end is not None and end <= start:
+    start, start_over = 0, 1  # the interval's ends are the fractions start/start_over and end/end_over
+    end, end_over = 1, 0  # (1/0: no end)
+    for other_rate, other_burst in others:
+        rise, fall = burst - other_burst, other_rate - rate  # they cross at rise/fall
+        if fall > 0:
+            if rise * start_over > start * fall:
+                start, start_over = rise, fall
+        elif fall < 0:
+            if rise * end_over > end * fall:  # -rise/-fall is below end/end_over
+                end, end_over = -rise, -fall
+        elif rise > 0:
+            return False
+        if end * start_over <= start * end_over:
             return False
     return True
 

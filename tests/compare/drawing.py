@@ -174,11 +174,11 @@ def any_server():
 
 
 def port(server, chance):
-    """The two numbers of a server, one of them out of range with some chance."""
-    if rng.random() >= chance:
-        return list(server)
-    beyond = [RATE_END, RATE_END + 1, 2**63, 2**64 - 1]
-    return rng.choice([[rng.choice([0] + beyond), server.latency], [server.rate, rng.choice(beyond)]])
+    """The numbers of a server, one of them out of range with some chance."""
+    if rng.random() < chance:
+        beyond = [RATE_END, RATE_END + 1, 2**63, 2**64 - 1]
+        server = rng.choice([server._replace(rate=rng.choice([0] + beyond)), server._replace(latency=rng.choice(beyond))])
+    return list(server)
 
 
 # ---- files

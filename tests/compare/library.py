@@ -10,7 +10,7 @@ import curves
 import profiles
 import routes
 import servers
-from rules import COUNT, FORM, HEADER, LARGE, LENGTH, LIST, PAD, RANGE, ROOM, UNBOUNDED, outcome
+from rules import COUNT, FORM, HEADER, LARGE, LENGTH, LIST, PAD, RANGE, ROOM, SERVER_NUMBERS, UNBOUNDED, Server, outcome
 
 GUARD = [0xA5C30F1E96870000 + place for place in range(8)]
 BYTE_GUARD = bytes(0xA5 ^ place for place in range(64))
@@ -23,13 +23,13 @@ def struct(*names):
 
 ANSWER = struct("code", "count")
 FIGURE = struct("code", "figure")
-SERVER = struct("code", "rate", "latency")
-PROFILE = struct("code", "kind", "count", "rate", "latency")
+SERVER = struct("code", *Server._fields)
+PROFILE = struct("code", "kind", "count", *Server._fields)
 WRITTEN = struct("code", "bytes")
 
 LENT = (ctypes.c_void_p, ctypes.c_size_t)
 NUMBER = (ctypes.c_uint64,)
-PORT = NUMBER + NUMBER
+PORT = SERVER_NUMBERS * NUMBER
 CURVE_CODES = {LIST, COUNT, RANGE, FORM}
 LIST_OUT, BYTES_OUT, NOTHING_OUT = [], b"", None
 

@@ -2,7 +2,7 @@
 
 from curves import curve_refusals, in_normal_form
 from rules import (
-    CURVE_KIND, EDITION, FORM, HEADER, LENGTH, PAD, SERVER_KIND,
+    CURVE_KIND, EDITION, FORM, HEADER, LENGTH, NO_SERVER, PAD, SERVER_KIND,
     Exact, Server, curve_buckets, curve_list,
 )
 from servers import server_refusals
@@ -92,8 +92,8 @@ def parsed(file):
 def read(file):
     lines, curve, server = parsed(file)
     if curve is not None:
-        return Exact(lines, (CURVE_KIND, len(curve), 0, 0), curve_list(curve))
-    return Exact(lines, (SERVER_KIND, 0) + tuple(server or (0, 0)), [])
+        return Exact(lines, (CURVE_KIND, len(curve), *NO_SERVER), curve_list(curve))
+    return Exact(lines, (SERVER_KIND, 0, *(server or NO_SERVER)), [])
 
 
 def written(lines, file):
@@ -108,6 +108,6 @@ def write_curve(curve):
     return written(curve_refusals(curve), lambda: curve_file(curve_buckets(curve)))
 
 
-def write_server(rate, latency):
-    server = Server(rate, latency)
+def write_server(*port):
+    server = Server(*port)
     return written(server_refusals(server), lambda: server_file(server))

@@ -16,8 +16,14 @@ CURVE_NUMBERS = 2  # for each bucket of a curve's list
 
 
 class Server(NamedTuple):
+    """A server; its numbers are passed in this order."""
+
     rate: int
     latency: int
+
+
+SERVER_NUMBERS = len(Server._fields)
+NO_SERVER = Server(0, 0)
 
 
 def raw_buckets(numbers):

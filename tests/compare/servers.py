@@ -10,7 +10,7 @@ from fractions import Fraction
 from math import ceil, floor
 
 from curves import crossings, curve_answer, curve_refusals, value
-from rules import LARGE, RANGE, UNBOUNDED, Exact, Server, curve_buckets, server_in_range
+from rules import LARGE, NO_SERVER, RANGE, SERVER_NUMBERS, UNBOUNDED, Exact, Server, curve_buckets, server_in_range
 
 ALL_TICKS = 150
 ALL_PAIRS = 12
@@ -124,27 +124,27 @@ def unbounded(holds):
 def server_answer(refusals, answer):
     """The answer of a question that asks for a server."""
     if refusals:
-        return Exact(refusals, (0, 0))
+        return Exact(refusals, NO_SERVER)
     server = answer()
     return Exact(set() if server_in_range(server) else {LARGE}, tuple(server))
 
 
-# ---- the questions
+# ---- the questions (`port` is a server's numbers)
 
 
-def join_of(rate, latency, next_rate, next_latency):
-    server, following = Server(rate, latency), Server(next_rate, next_latency)
+def join_of(*ports):
+    server, following = Server(*ports[:SERVER_NUMBERS]), Server(*ports[SERVER_NUMBERS:])
     return server_answer(server_refusals(server) | server_refusals(following), lambda: join(server, following))
 
 
-def behind_of(curve, rate, latency):
-    server = Server(rate, latency)
+def behind_of(curve, *port):
+    server = Server(*port)
     return curve_answer(port_refusals(curve, server), lambda: behind_raw(curve_buckets(curve), server))
 
 
 def figure_of(question):
-    def asked(curve, rate, latency):
-        server = Server(rate, latency)
+    def asked(curve, *port):
+        server = Server(*port)
         lines = port_refusals(curve, server)
         return Exact(lines, (0 if lines else question(curve_buckets(curve), server),))
 
@@ -154,8 +154,9 @@ def figure_of(question):
 backlog_of, delay_of = figure_of(backlog), figure_of(delay)
 
 
-def residual_of(rate, latency, cross):
-    server = Server(rate, latency)
+def residual_of(*port_and_cross):
+    *port, cross = port_and_cross
+    server = Server(*port)
     lines = curve_refusals(cross) | server_refusals(server)
-    lines = lines or unbounded(curve_buckets(cross)[-1][0] >= rate)
+    lines = lines or unbounded(curve_buckets(cross)[-1][0] >= server.rate)
     return server_answer(lines, lambda: residual(server, curve_buckets(cross)))

@@ -26,11 +26,8 @@ fn long_normalise(rng: &mut Rng) -> Question {
 
 fn value_of(rng: &mut Rng, curve: &[Bucket]) -> Question {
     let f = as_curve(rng, curve, 4);
-    let tick = if rng.one_in(8) {
-        rng.pick(&[TICK_END, TICK_END + 1, 1 << 63, u64::MAX])
-    } else {
-        good_tick(rng, curve)
-    };
+    let tick =
+        if rng.one_in(8) { rng.pick(&[TICK_END, TICK_END + 1, 1 << 63, u64::MAX]) } else { good_tick(rng, curve) };
     questions::value(&f, tick)
 }
 
@@ -248,7 +245,9 @@ fn figure(run: &mut Run, name: &'static str, question: Question, code: u32, figu
     let told = run.answer(&question);
     let list = if question.operation == Read { told.list_read() } else { told.list() };
     let good = told.code == u64::from(code) && told.stayed && told.figures == figures && list == output;
-    run.check(name, good && reference, || format!("{question:?}\n  told {told:?}, the reference is right: {reference}"));
+    run.check(name, good && reference, || {
+        format!("{question:?}\n  told {told:?}, the reference is right: {reference}")
+    });
 }
 
 fn bytes_figure(run: &mut Run, name: &'static str, question: Question, bytes: &[u8]) {

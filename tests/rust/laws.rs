@@ -91,6 +91,11 @@ impl Run {
     fn value(&mut self, curve: &[u64], tick: u64) -> Option<u128> {
         self.answer(&questions::value(curve, tick)).figure().map(u128::from)
     }
+
+    /// What behind, backlog, delay and residual read of a curve at a tick, also at 0: its value.
+    fn reading(&mut self, curve: &[u64], tick: u64) -> Option<u128> {
+        self.value(curve, tick)
+    }
 }
 
 // ---- curves
@@ -219,7 +224,7 @@ fn greatest_gap(run: &mut Run, curve: &[Bucket], server: Server, t: u64, early: 
         return None;
     }
     let mut gap = |u: u64| {
-        let value = run.value(&list, t + u).expect("a value");
+        let value = run.reading(&list, t + u).expect("a value");
         value as i128 - server.served(u + early) as i128
     };
     if end <= 40 {
@@ -236,11 +241,11 @@ fn laws_of_port(run: &mut Run, curve: &[Bucket], server: Server) {
     let [behind, backlog, delay] = [Behind, Backlog, Delay].map(|asked| run.answer(&at_port(asked, &f, server)));
     if behind.answered() {
         law_of_answers(run, behind.list(), &behind_raw(curve, server));
-        let good = backlog.answered() && run.value(behind.list(), 0) == backlog.figure().map(u128::from);
+        let good = backlog.answered() && run.reading(behind.list(), 0) == backlog.figure().map(u128::from);
         run.law(BACKLOG_BEHIND, good, &told);
         for t in [0, 1, run.rng.below(20), good_tick(&mut run.rng, curve)] {
             if let Some(most) = greatest_gap(run, curve, server, t, 0) {
-                let good = run.value(behind.list(), t).map(|value| value as i128) == Some(most);
+                let good = run.reading(behind.list(), t).map(|value| value as i128) == Some(most);
                 run.law(BEHIND_GREATEST, good, &[&f, &numbers(&[server]), &[t]]);
             }
         }
@@ -290,7 +295,7 @@ fn law_of_residual(run: &mut Run, cross: &[Bucket], server: Server) {
     let Some(left) = run.answer(&at_port(Residual, &list, server)).server() else { return };
     for later in [0, 1, good_tick(&mut run.rng, cross)] {
         let tick = left.latency + later;
-        let crossed = run.value(&list, later).expect("a value");
+        let crossed = run.reading(&list, later).expect("a value");
         let good = left.served(tick) + crossed <= server.served(tick);
         run.law(RESIDUAL_LEAST, good, &[&list, &numbers(&[server]), &[tick]]);
     }

@@ -102,8 +102,7 @@ fn of_profile(told: library::Profile) -> (u64, Figures) {
 /// Calls the library, with an output of so many numbers or bytes.
 pub fn ask(question: &Question, room: usize) -> Told {
     let Question { operation, server, next, number, .. } = question;
-    let (mut f, mut g, mut file) =
-        (Table::with(&question.f), Table::with(&question.g), Table::with(&question.file));
+    let (mut f, mut g, mut file) = (Table::with(&question.f), Table::with(&question.g), Table::with(&question.file));
     let kind = operation.out();
     let room_of = |other: Out| if kind == other { room } else { 0 };
     let mut out = Table::with(&words::<u64>(room_of(Out::Numbers)));

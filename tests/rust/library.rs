@@ -88,12 +88,7 @@ extern "C" {
     fn duchrelin_delay(curve: *const u64, curve_numbers: usize, rate: u64, latency: u64) -> Figure;
     fn duchrelin_residual(rate: u64, latency: u64, cross: *const u64, cross_numbers: usize) -> ServerAnswer;
     fn duchrelin_read(file: *const u8, file_bytes: usize, out: *mut u64, out_numbers: usize) -> Profile;
-    fn duchrelin_write_curve(
-        curve: *const u64,
-        curve_numbers: usize,
-        buffer: *mut u8,
-        buffer_bytes: usize,
-    ) -> Written;
+    fn duchrelin_write_curve(curve: *const u64, curve_numbers: usize, buffer: *mut u8, buffer_bytes: usize) -> Written;
     fn duchrelin_write_server(rate: u64, latency: u64, buffer: *mut u8, buffer_bytes: usize) -> Written;
     fn duchrelin_route(input: *const u8, input_bytes: usize, text: *mut u8, text_bytes: usize) -> Written;
 }

@@ -25,9 +25,8 @@ pub enum Operation {
     Route,
 }
 
-pub const OPERATIONS: [Operation; 14] = [
-    Normalise, Value, Lower, Sum, Shape, Join, Behind, Backlog, Delay, Residual, Read, WriteCurve, WriteServer, Route,
-];
+pub const OPERATIONS: [Operation; 14] =
+    [Normalise, Value, Lower, Sum, Shape, Join, Behind, Backlog, Delay, Residual, Read, WriteCurve, WriteServer, Route];
 
 /// What is lent for the answer.
 #[derive(Clone, Copy, PartialEq, Eq)]

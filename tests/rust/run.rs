@@ -280,7 +280,9 @@ impl Run {
             let found: BTreeSet<u32> = found.collect();
             println!("routes refused at {place}: {found:?}");
             let good = found.iter().eq(codes);
-            self.came_up(good, || format!("routes must be refused at {place} with each of these, and no other: {codes:?}"));
+            self.came_up(good, || {
+                format!("routes must be refused at {place} with each of these, and no other: {codes:?}")
+            });
         }
     }
 
