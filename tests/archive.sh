@@ -1,3 +1,4 @@
+# shellcheck shell=bash
 # For the scripts that link the library: each sources this at the top of the repository.
 archive=target/staticlib/libduchrelin.a
 
@@ -34,10 +35,10 @@ build_program() { # build_program NAME: proves what it needs, and writes target/
   [ -x "target/bin/$1" ] || give_up "no program target/bin/$1"
 }
 
-run_tests() { # run_tests COMMAND..: its last line is 'N passed, M failed'; ends with 0 only if all passed
+run_tests() { # run_tests COMMAND..: its last line is 'N passed, M failed'; ends with 0 only if all passed. A call that never ends fails.
   local log status last
   log=$(mktemp) || give_up "no temporary file"
-  "$@" | tee "$log"
+  timeout 900 "$@" | tee "$log"
   status=${PIPESTATUS[0]}
   last=$(tail -n 1 "$log")
   rm -f "$log"

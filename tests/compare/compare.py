@@ -162,16 +162,16 @@ def figures(tally):
 
 def references(tally):
     law = tally.law
-    law("normal form, two ways", 800, lambda: [drawing.small_raw()],
+    law("normal form, two ways", 1500, lambda: [drawing.small_raw()],
         lambda raw: curves.normal_form(raw) == curves.normal_form_by_trial(raw))
 
     def port():
         curve = curves.normal_form(drawing.small_raw())
         return curve, Server(max(1, curve[-1][0]) + rng.randrange(4), rng.randrange(12))
 
-    law("backlog, ticks beside the crossings and all ticks", 400, port,
+    law("backlog, ticks beside the crossings and all ticks", 1500, port,
         lambda curve, server: servers.backlog(curve, server) == servers.backlog_tick_by_tick(curve, server))
-    law("delay, by halving and one by one", 400, port,
+    law("delay, by halving and one by one", 1500, port,
         lambda curve, server: servers.delay(curve, server) == servers.delay_one_by_one(curve, server))
 
     def behind_by_ticks(curve, server):
@@ -181,7 +181,7 @@ def references(tally):
         greatest = lambda t: max(curves.value(curve, t + u) - servers.served(server, u) for u in range(end))
         return all(curves.value(after, t) == greatest(t) for t in range(8))
 
-    law("behind is the greatest over u, tick by tick", 200, port, behind_by_ticks)
+    law("behind is the greatest over u, tick by tick", 600, port, behind_by_ticks)
 
 
 # ---- the campaigns
@@ -238,8 +238,9 @@ def sum_of_many_pairs():
 
 def burst_at_the_end():
     """A curve and a server: the last burst behind it is 2^40-1 or 2^40, or beside them."""
+    steeper = rng.choice([0, 1, 5])
     curve = drawing.curve_of(rng.randint(1, 5), *rng.choice([(4, 3), (2**37, 2**17)]))
-    curve = [(rate + more, burst) for more in [rng.choice([0, 1, 5])] for rate, burst in curve]
+    curve = [(rate + steeper, burst) for rate, burst in curve]
     server = drawing.server_for(curve)
     server = drawing.clamped(server._replace(rate=max(server.rate, curve[-1][0])))
     last_rate, last_burst = curve[-1]
@@ -268,36 +269,36 @@ def joining():
 def campaigns(tally):
     small, large = drawing.small_curve, drawing.large_curve
     run = tally.campaign
-    run("normalise, few and small numbers", 2500, lambda: [drawing.as_raw(drawing.small_raw(), 0.35)], "normalise")
-    run("normalise, long lists", 60, lambda: [drawing.as_raw(drawing.large_raw(), 0.2)], "normalise")
-    run("value, small curves", 2000, lambda: [drawing.as_curve(small(), 0.35), drawing.tick(0.2)], "value")
+    run("normalise, few and small numbers", 5000, lambda: [drawing.as_raw(drawing.small_raw(), 0.35)], "normalise")
+    run("normalise, long lists", 100, lambda: [drawing.as_raw(drawing.large_raw(), 0.2)], "normalise")
+    run("value, small curves", 3000, lambda: [drawing.as_curve(small(), 0.35), drawing.tick(0.2)], "value")
     run("value, long curves", 60, lambda: [drawing.as_curve(large(), 0.2), drawing.tick(0.1)], "value")
-    run("lower, small curves", 2000, two_curves(small, 0.35), "lower")
+    run("lower, small curves", 3000, two_curves(small, 0.35), "lower")
     run("lower, long curves", 50, two_curves(large, 0.2), "lower")
     run("lower, 60 to 68 buckets", 25, parts_of_one_curve, "lower")
-    run("sum, small curves", 2000, two_curves(small, 0.35), "sum")
-    run("sum, up to 4096 pairs", 16, sum_of_many_pairs, "sum")
-    run("shape, small curves", 2000, linked(small, 0.35), "shape")
+    run("sum, small curves", 3000, two_curves(small, 0.35), "sum")
+    run("sum, up to 4096 pairs", 24, sum_of_many_pairs, "sum")
+    run("shape, small curves", 3000, linked(small, 0.35), "shape")
     run("shape, long curves", 50, linked(large, 0.2), "shape")
     run("shape, 60 to 65 buckets", 25, link_before_a_curve, "shape")
     run("join", 3000, joining, "join")
-    run("behind, small curves", 4000, at_port(small, 0.3), "behind")
-    run("behind, long curves", 120, at_port(large, 0.15), "behind")
+    run("behind, small curves", 8000, at_port(small, 0.3), "behind")
+    run("behind, long curves", 200, at_port(large, 0.15), "behind")
     run("behind, bursts at the end of their range", 1000, burst_at_the_end, "behind")
-    run("backlog, small curves", 3000, at_port(small, 0.3), "backlog")
+    run("backlog, small curves", 5000, at_port(small, 0.3), "backlog")
     run("backlog, long curves", 80, at_port(large, 0.15), "backlog")
-    run("delay, small curves", 3000, at_port(small, 0.3), "delay")
+    run("delay, small curves", 5000, at_port(small, 0.3), "delay")
     run("delay, long curves", 80, at_port(large, 0.15), "delay")
-    run("residual, small curves", 3000, beside(small, 0.3), "residual")
+    run("residual, small curves", 4000, beside(small, 0.3), "residual")
     run("residual, long curves", 60, beside(large, 0.15), "residual")
     run("residual, latencies at the end of their range", 1000, latency_at_the_end, "residual")
-    run("read, files of small profiles", 5000, lambda: [drawing.some_file(small(), 0.6)], "read")
+    run("read, files of small profiles", 8000, lambda: [drawing.some_file(small(), 0.6)], "read")
     run("read, long files", 100, lambda: [drawing.some_file(large(), 0.5)], "read")
     run("write_curve, small curves", 2000, lambda: [drawing.as_curve(small(), 0.3)], "write_curve")
     run("write_curve, long curves", 60, lambda: [drawing.as_curve(large(), 0.2)], "write_curve")
     run("write_server", 2000, lambda: drawing.port(drawing.any_server(), 0.3), "write_server")
-    run("route, small curves", 1500, lambda: [drawing.route_input(small(), 0.4)], "route")
-    run("route, long curves", 12, lambda: [drawing.route_input(large(), 0.2)], "route")
+    run("route, small curves", 2500, lambda: [drawing.route_input(small(), 0.4)], "route")
+    run("route, long curves", 20, lambda: [drawing.route_input(large(), 0.2)], "route")
 
 
 def every_length(tally):

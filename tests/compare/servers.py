@@ -12,9 +12,9 @@ from math import ceil, floor
 from curves import crossings, curve_answer, curve_refusals, value
 from rules import LARGE, NO_SERVER, RANGE, SERVER_NUMBERS, UNBOUNDED, Exact, Server, curve_buckets, server_in_range
 
-ALL_TICKS = 150
-ALL_PAIRS = 12
-TRIED_ONE_BY_ONE = 40
+ALL_TICKS = 20  # up to here all ticks are tried
+ALL_PAIRS = 12  # up to so many buckets all crossings are taken
+TRIED_ONE_BY_ONE = 8  # up to here all delays are tried
 
 
 def served(server, tick):
@@ -60,7 +60,7 @@ def excess(curve, rate):
 
 
 def delay(curve, server):
-    """The smallest d that suffices: tried from 0 on; past some tens by halving, as more than enough is enough too."""
+    """The smallest d that suffices: tried from 0 on; past the first few by halving, as more than enough is enough too."""
     read = readings(curve)
     suffices = lambda d: greatest(curve, read, server, d) <= 0
     for d in range(TRIED_ONE_BY_ONE):
