@@ -1,3 +1,4 @@
+# shellcheck shell=bash
 # For the scripts that link the library: each sources this at the top of the repository.
 archive=target/staticlib/libduchrelin.a
 
@@ -14,15 +15,30 @@ need() { # need TOOL..
   done
 }
 
+# .ci/run builds the archive and the programs once, and says so by this variable.
+built() { # built FILE
+  [ "${DUCHRELIN_ARCHIVE_BUILT:-0}" = 1 ] && [ -f "$1" ]
+}
+
 build_archive() { # proves what the library needs, and writes the archive
+  built "$archive" && return
+  need rt
   rm -f "$archive"
   rt staticlib duchrelin || give_up "the library is not built"
 }
 
-run_tests() { # run_tests COMMAND..: its last line is 'N passed, M failed'; ends with 0 only if all passed
+build_program() { # build_program NAME: proves what it needs, and writes target/bin/NAME
+  built "target/bin/$1" && return
+  need rt
+  rm -f "target/bin/$1"
+  rt check "$1" || give_up "the program $1 is not built"
+  [ -x "target/bin/$1" ] || give_up "no program target/bin/$1"
+}
+
+run_tests() { # run_tests COMMAND..: its last line is 'N passed, M failed'; ends with 0 only if all passed. A call that never ends fails.
   local log status last
   log=$(mktemp) || give_up "no temporary file"
-  "$@" | tee "$log"
+  timeout 900 "$@" | tee "$log"
   status=${PIPESTATUS[0]}
   last=$(tail -n 1 "$log")
   rm -f "$log"

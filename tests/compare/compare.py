@@ -1,288 +1,352 @@
-"""Compares the library with reference.py on many random lists, good and damaged, long and short.
+"""Compares the library with the references of this directory on many random inputs, good and damaged, long and short.
 
-Called with the path of the library as a shared object. The seed is fixed, so every run is the same. Each call is a case: code, count
-or figure, the whole output list, the operands and the guard words around each list must be as the reference says. The last line is
-'N passed, M failed'.
+Called with the path of the library as a shared object. For every input the code, every figure and count, the whole output list or
+buffer, the operands and the guard words around all of them must be as the reference says. A test is a figure of the scope, a law of
+the references themselves, or a campaign of random inputs of one kind, whose number it prints. The last line is 'N passed, M failed'.
 """
 
-import ctypes
-import random
+import re
 import sys
 from collections import Counter
-from fractions import Fraction
-from math import gcd
 
-import reference
-from reference import BURST_END, RATE_END, TICK_END, buckets, flat
+import curves
+import drawing
+import library
+import profiles
+import servers
+from drawing import rng
+from library import BYTES_OUT, CALLS, NOTHING_OUT
+from rules import (
+    BURST_END, COUNT, CURVE_NUMBERS, FORM, HEADER, LARGE, LATENCY_END, LENGTH, MOST_BUCKETS, MOST_SERVERS, PAD, RANGE, UNBOUNDED,
+    NO_SERVER, Server, curve_list, raw_list,
+)
 
-SMALL_CASES = 20000
-LARGE_CASES = 360
-LARGE_PARTS = 60
-LARGE_SUMS = 24
-SELF_CASES = 1500
-GUARD = [0xA5C30F1E96870000 + place for place in range(8)]
-GUARD_BYTES = 8 * len(GUARD)
-
-rng = random.Random(20240611)
-
-
-# ---- the library
+C = [(10, 2), (3, 20)]
 
 
-class Pair(ctypes.Structure):
-    """A code, and a count or a figure."""
+class Tally:
+    """Counts the tests, and tells what failed."""
 
-    _fields_ = [("code", ctypes.c_uint64), ("second", ctypes.c_uint64)]
+    def __init__(self, functions):
+        self.functions = functions
+        self.passed = self.failed = 0
+        self.codes = Counter()
+        self.refused_routes = set()
 
-
-LENT, NUMBER = (ctypes.c_void_p, ctypes.c_size_t), (ctypes.c_uint64,)
-SIGNATURES = {
-    "normalise": LENT + LENT,
-    "value": LENT + NUMBER,
-    "lower": LENT + LENT + LENT,
-    "sum": LENT + LENT + LENT,
-    "shape": LENT + NUMBER + LENT,
-}
-
-
-def load(path):
-    library = ctypes.CDLL(path)
-    functions = {}
-    for name, arguments in SIGNATURES.items():
-        function = getattr(library, "duchrelin_" + name)
-        function.argtypes, function.restype = arguments, Pair
-        functions[name] = function
-    return functions
-
-
-def call(function, arguments):
-    """Calls with each list between guard words; answers the result and what all lists and guard words then hold."""
-    passed, lent = [], []
-    for argument in arguments:
-        if isinstance(argument, list):
-            held = GUARD + argument + GUARD
-            block = (ctypes.c_uint64 * len(held))(*held)
-            lent.append(block)
-            passed += [ctypes.addressof(block) + GUARD_BYTES, len(argument)]
+    def test(self, name, wrong):
+        """One test: it passed where nothing went wrong."""
+        if wrong:
+            self.failed += 1
+            print(f"FAILED {name}: {len(wrong)} wrong")
+            for told in wrong[:3]:
+                print(f"  {told}")
         else:
-            passed.append(argument)
-    result = function(*passed)
-    return (result.code, result.second), [list(block) for block in lent]
+            self.passed += 1
+
+    def compared(self, name, operands, exact, out):
+        """What is wrong with a call, if anything."""
+        wanted = library.expected(exact, operands, out)
+        got = library.called(self.functions[name], operands, out)
+        self.codes[name, wanted[0][0]] += 1
+        if name == "route" and wanted[0][0] == 0:
+            self.refused_routes |= {(int(code), int(place)) for code, place in re.findall(rb"^refused (\d+) at (\d+)", exact.output)}
+        return [] if got == wanted else [f"{name} {operands} {out}\n    expected {wanted}\n    got      {got}"]
+
+    def campaign(self, name, count, draw, call):
+        """A test of so many random inputs, each with a random output around the length that is needed."""
+        wrong = []
+        for _ in range(count):
+            operands = draw()
+            exact = CALLS[call].exact(*operands)
+            wrong += self.compared(call, operands, exact, some_output(call, len(exact.output)))
+        self.ran(name, count, wrong)
+
+    def every_length(self, call, operands):
+        """A test with outputs of every length, from none to three more than needed."""
+        exact = CALLS[call].exact(*operands)
+        count = len(exact.output) + 4
+        wrong = []
+        for length in range(count):
+            wrong += self.compared(call, operands, exact, an_output(call, length))
+        self.ran(f"{call}, outputs of every length", count, wrong)
+
+    def law(self, name, count, draw, holds):
+        """A test of the references themselves."""
+        wrong = [f"{inputs}" for inputs in (draw() for _ in range(count)) if not holds(*inputs)]
+        self.ran(f"reference: {name}", count, wrong)
+
+    def ran(self, name, count, wrong):
+        print(f"{name}: {count} inputs")
+        self.test(name, wrong)
 
 
-def expected(name, arguments):
-    """The same by the reference."""
-    lists = [argument for argument in arguments if isinstance(argument, list)]
-    if name == "value":
-        result = reference.value_at(*arguments)
-    else:
-        question = {"normalise": reference.normalise, "lower": reference.lower, "sum": reference.sum_of, "shape": reference.shape}[name]
-        code, count, after = question(*arguments)
-        result, lists = (code, count), lists[:-1] + [after]
-    return result, [GUARD + numbers + GUARD for numbers in lists]
-
-
-# ---- random lists
-
-
-def small_raw():
-    """Few and small numbers: many ties, copies and useless buckets."""
-    rates, bursts = rng.choice([(3, 4), (7, 10), (12, 40)])
-    return flat((rng.randrange(rates), rng.randrange(bursts)) for _ in range(rng.randint(1, 8)))
-
-
-def steps_to_curve(steps, last_rate, first_burst):
-    """The curve whose buckets cross at rise/fall, for steps (rise, fall) of different quotients."""
-    steps = sorted(steps, key=lambda step: Fraction(*step))
-    rate, burst = last_rate + sum(fall for _, fall in steps), first_burst
-    curve = [(rate, burst)]
-    for rise, fall in steps:
-        rate, burst = rate - fall, burst + rise
-        curve.append((rate, burst))
-    return curve
-
-
-def curve_of(count, rise_end, fall_end, quotients=None):
-    """A curve in normal form of so many buckets, if the numbers allow so many different crossings."""
-    steps = {}
-    for _ in range(4 * count):
-        if len(steps) == count - 1:
-            break
-        if quotients:
-            numerator, denominator = rng.choice(quotients)
-            scale = rng.randint(1, 3)
-            rise, fall = numerator * scale, denominator * scale
-        else:
-            rise, fall = rng.randint(1, rise_end), rng.randint(1, fall_end)
-        steps.setdefault(Fraction(rise, fall), (rise, fall))
-    return steps_to_curve(steps.values(), 0, 0)
-
-
-def moved(curve):
-    """The curve with every rate and every burst raised by one number each, sometimes as far as the range goes."""
-    rate_left, burst_left = RATE_END - 1 - curve[0][0], BURST_END - 1 - curve[-1][1]
-    more_rate = rng.choice([0, 0, rng.randrange(5), rate_left, rate_left // 2])
-    more_burst = rng.choice([0, 0, rng.randrange(5), burst_left, burst_left // 2])
-    return [(rate + min(more_rate, rate_left), burst + min(more_burst, burst_left)) for rate, burst in curve]
-
-
-def small_curve():
-    if rng.random() < 0.5:
-        return flat(reference.normal_form(buckets(small_raw())))
-    curve = curve_of(rng.randint(1, 6), *rng.choice([(4, 3), (20, 9), (2**37, 2**17)]))
-    return flat(moved(curve) if rng.random() < 0.4 else curve)
-
-
-SHARED = [(p, q) for p in range(1, 12) for q in range(1, 12) if gcd(p, q) == 1]
-
-
-def large_curve():
-    count = rng.choice([rng.randint(20, 64), 63, 64, 64])
-    kind = rng.randrange(3)
-    if kind == 0:
-        curve = curve_of(count, 300, 200)
-    elif kind == 1:
-        curve = curve_of(count, 2**34 - 1, 2**14 - 1)
-    else:
-        curve = curve_of(count, 0, 0, SHARED)
-    return flat(moved(curve) if rng.random() < 0.4 else curve)
-
-
-def large_raw():
-    """Up to 64 buckets of a curve's and others, in any order."""
-    raw = buckets(large_curve())
-    raw = rng.sample(raw, rng.randint(1, len(raw)))
-    while len(raw) < 64 and rng.random() < 0.97:
-        rate, burst = rng.choice(raw)
-        raw.append((min(RATE_END - 1, max(0, rate + rng.randint(-2, 2))), min(BURST_END - 1, max(0, burst + rng.randint(-2, 40)))))
-    rng.shuffle(raw)
-    return flat(raw)
-
-
-def damaged(numbers):
-    """One or two things changed that may break a rule."""
-    numbers = list(numbers)
-    for _ in range(rng.randint(1, 2)):
-        place = rng.randrange(len(numbers)) if numbers else 0
-        kind = rng.randrange(9)
-        if kind == 0:
-            numbers = numbers[:place]
-        elif kind == 1:
-            numbers.append(rng.choice([0, 1, RATE_END]))
-        elif kind == 2 and numbers:
-            numbers[place] = rng.choice([RATE_END - 1, RATE_END, RATE_END + 1, BURST_END - 1, BURST_END, 2**63, 2**64 - 1])
-        elif kind == 3 and numbers:
-            numbers[place] = min(2**64 - 1, max(0, numbers[place] + rng.choice([-2, -1, 1, 2])))
-        elif kind == 4:
-            swapped = buckets(numbers)
-            rng.shuffle(swapped)
-            numbers = flat(swapped)
-        elif kind == 5:
-            numbers = numbers + numbers[-2:]
-        elif kind == 6:
-            numbers = numbers[2:] + numbers[:2]
-        elif kind == 7 and rng.random() < 0.5:
-            numbers = (numbers * 131)[: rng.choice([126, 127, 128, 129, 130, 131])]
-        elif kind == 8 and rng.random() < 0.2:
-            numbers = []
-    return numbers
-
-
-def maybe_damaged(numbers, chance):
-    return damaged(numbers) if rng.random() < chance else numbers
-
-
-# ---- random calls
-
-
-def output(needed):
-    """An output list around the length that is needed, with numbers that no answer has."""
-    length = rng.choice([needed, needed, needed + 1, needed + 2, needed + 7, max(0, needed - 1), max(0, needed - 2), 0, 128, 200])
+def an_output(name, length):
+    """An output of this length, with numbers that no answer has, or with bytes that few have."""
+    if CALLS[name].out is NOTHING_OUT:
+        return NOTHING_OUT
+    if CALLS[name].out is BYTES_OUT:
+        return rng.randbytes(length)
     return [2**63 + rng.getrandbits(20) for _ in range(length)]
 
 
-def with_output(name, operands):
-    """The operands with an output list around the length of the answer, if there is one."""
-    (_, count), _ = expected(name, operands + [[0] * 128])
-    return operands + [output(2 * count if count else rng.choice([0, 2, 4]))]
+def some_output(name, needed):
+    around = needed or rng.choice([0, CURVE_NUMBERS, 2 * CURVE_NUMBERS])
+    short = [max(0, around - 1), max(0, around - 2), max(0, around - CURVE_NUMBERS), 0, rng.randrange(around + 1)]
+    enough = [around, around, around, around + 1, around + 2, around + 7, around + CURVE_NUMBERS, MOST_BUCKETS * CURVE_NUMBERS, 200]
+    return an_output(name, rng.choice(enough if rng.random() < 0.65 else short))
 
 
-def random_call(curve, raw, chance, name):
-    if name == "normalise":
-        return with_output(name, [maybe_damaged(raw(), chance)])
-    if name == "value":
-        ends = [0, 1, 2, rng.randrange(200), rng.randrange(TICK_END), TICK_END - 1]
-        beyond = [TICK_END, 2**64 - 1]
-        return [maybe_damaged(curve(), chance), rng.choice(beyond if rng.random() < chance / 2 else ends)]
-    if name == "shape":
-        f = maybe_damaged(curve(), chance)
-        rates = [1, 2, rng.randint(1, 20), f[0] if f else 1, rng.randrange(1, RATE_END), RATE_END - 1]
-        beyond = [0, RATE_END, 2**64 - 1]
-        return with_output(name, [f, rng.choice(beyond if rng.random() < chance / 2 else rates)])
-    return with_output(name, [maybe_damaged(curve(), chance / 2), maybe_damaged(curve(), chance / 2)])
+# ---- the figures of the scope
 
 
-def parts_of_one_curve(name):
-    """Operands whose lower, or whose shape by the link's rate, has 60 to 68 buckets."""
-    curve = curve_of(rng.randint(60, 68), 300, 200)
-    if name == "shape":
-        return with_output(name, [flat(curve[1:65]), curve[0][0]])
+def figures(tally):
+    """(name, call, operands, figures, output)"""
+    raw, curve = raw_list, curve_list
+    p1 = raw([(3, 20), (10, 2), (10, 2), (5, 15), (3, 25)])
+    behind_6_4 = [(3, 32)]
+    server_6_1, curve_10_2 = bytes.fromhex("120000600001"), bytes.fromhex("11000002800000000080")
+    p12 = profiles.curve_file(C) + profiles.server_file(Server(6, 4)) + profiles.server_file(Server(5, 2))
+    p12_text = b"hop 1 32 6\nhop 2 38 9\nroute 38 9\n"
+    sixty_four, most = raw([(7, 9)] * 64), Server(1, LATENCY_END - 1)
+    table = [
+        ("P1", "normalise", [p1], (0, 2), curve(C)),
+        ("P2", "normalise", [raw([(4, 0), (3, 1), (2, 2)])], (0, 2), curve([(4, 0), (2, 2)])),
+        ("P3", "normalise", [raw([(10, 0), (4, 2), (0, 5)])], (0, 3), curve([(10, 0), (4, 2), (0, 5)])),
+        ("P4", "sum", [curve(C), curve([(4, 0), (2, 2)])], (0, 3), curve([(14, 2), (12, 4), (5, 22)])),
+        ("P5, behind", "behind", [curve(C), *Server(6, 1)], (0, 2), curve([(6, 17), (3, 23)])),
+        ("P5, backlog", "backlog", [curve(C), *Server(6, 1)], (0, 17), None),
+        ("P5, delay", "delay", [curve(C), *Server(6, 1)], (0, 3), None),
+        ("P6, behind", "behind", [curve(C), *Server(6, 4)], (0, 1), curve(behind_6_4)),
+        ("P6, backlog", "backlog", [curve(C), *Server(6, 4)], (0, 32), None),
+        ("P6, delay", "delay", [curve(C), *Server(6, 4)], (0, 6), None),
+        ("P7, second hop", "behind", [curve(behind_6_4), *Server(5, 2)], (0, 1), curve([(3, 38)])),
+        ("P7, delay of the second hop", "delay", [curve(behind_6_4), *Server(5, 2)], (0, 9), None),
+        ("P7, joined", "join", [*Server(6, 4), *Server(5, 2)], (0, *Server(5, 6)), None),
+        ("P7, one step", "behind", [curve(C), *Server(5, 6)], (0, 1), curve([(3, 38)])),
+        ("P7, delay of one step", "delay", [curve(C), *Server(5, 6)], (0, 9), None),
+        ("P8, behind", "behind", [curve([(5, 7)]), *Server(5, 2)], (0, 1), curve([(5, 17)])),
+        ("P8, delay", "delay", [curve([(5, 7)]), *Server(5, 2)], (0, 4), None),
+        ("P8, refused by behind", "behind", [curve([(6, 7)]), *Server(5, 2)], (UNBOUNDED, 0), []),
+        ("P8, refused by backlog", "backlog", [curve([(6, 7)]), *Server(5, 2)], (UNBOUNDED, 0), None),
+        ("P8, refused by delay", "delay", [curve([(6, 7)]), *Server(5, 2)], (UNBOUNDED, 0), None),
+        ("P9, backlog of nothing", "backlog", [curve([(0, 0)]), *Server(5, 2)], (0, 0), None),
+        ("P9, delay of nothing", "delay", [curve([(0, 0)]), *Server(5, 2)], (0, 0), None),
+        ("P9, backlog", "backlog", [curve([(5, 0)]), *Server(10, 3)], (0, 15), None),
+        ("P9, delay", "delay", [curve([(5, 0)]), *Server(10, 3)], (0, 3), None),
+        ("P10", "residual", [*Server(6, 1), curve(C)], (0, *Server(3, 5)), None),
+        ("P11, server written", "write_server", [*Server(6, 1)], (0, 6), server_6_1),
+        ("P11, server read", "read", [server_6_1], (0, 2, 0, *Server(6, 1)), []),
+        ("P11, curve written", "write_curve", [curve([(10, 2)])], (0, 10), curve_10_2),
+        ("P11, curve read", "read", [curve_10_2], (0, 1, 1, *NO_SERVER), curve([(10, 2)])),
+        ("P12", "route", [p12], (0, len(p12_text)), p12_text),
+        ("shape {(3,20)} by 10", "shape", [curve([(3, 20)]), 10], (0, 2), curve([(10, 0), (3, 20)])),
+        ("join (1, 2^20-1) with (1, 0)", "join", [*most, *Server(1, 0)], (0, *most), None),
+        ("join (1, 2^20-1) with (1, 1)", "join", [*most, *Server(1, 1)], (LARGE, *NO_SERVER), None),
+        ("64 raw buckets", "normalise", [sixty_four], (0, 1), curve([(7, 9)])),
+        ("65 raw buckets", "normalise", [sixty_four + raw([(7, 9)])], (COUNT, 0), []),
+        ("burst 2^40-1", "normalise", [raw([(0, BURST_END - 1)])], (0, 1), curve([(0, BURST_END - 1)])),
+        ("burst 2^40", "normalise", [raw([(0, BURST_END)])], (RANGE, 0), []),
+    ]
+    for name, call, operands, result, output in table:
+        exact = CALLS[call].exact(*operands)
+        out = an_output(call, len(output) + 3) if output is not None else NOTHING_OUT
+        wanted = library.expected(exact, operands, out)
+        wrong = tally.compared(call, operands, exact, out)
+        if wanted[0] != result or (output is not None and result[0] == 0 and list(exact.output) != list(output)):
+            wrong.append(f"the reference itself: {wanted}")
+        tally.test(name, wrong)
+
+
+# ---- the references themselves
+
+
+def references(tally):
+    law = tally.law
+    law("normal form, two ways", 1500, lambda: [drawing.small_raw()],
+        lambda raw: curves.normal_form(raw) == curves.normal_form_by_trial(raw))
+
+    def port():
+        curve = curves.normal_form(drawing.small_raw())
+        return curve, Server(max(1, curve[-1][0]) + rng.randrange(4), rng.randrange(12))
+
+    law("backlog, ticks beside the crossings and all ticks", 1500, port,
+        lambda curve, server: servers.backlog(curve, server) == servers.backlog_tick_by_tick(curve, server))
+    law("delay, by halving and one by one", 1500, port,
+        lambda curve, server: servers.delay(curve, server) == servers.delay_one_by_one(curve, server))
+
+    def behind_by_ticks(curve, server):
+        """At every whole tick the greatest over u of value(t + u) minus what is served by u."""
+        after = curves.normal_form(servers.behind_raw(curve, server))
+        end = 40 + server.latency
+        greatest = lambda t: max(curves.value(curve, t + u) - servers.served(server, u) for u in range(end))
+        return all(curves.value(after, t) == greatest(t) for t in range(8))
+
+    law("behind is the greatest over u, tick by tick", 600, port, behind_by_ticks)
+
+
+# ---- the campaigns
+
+
+def two_curves(curve, chance):
+    return lambda: [drawing.as_curve(curve(), chance / 2), drawing.as_curve(curve(), chance / 2)]
+
+
+def at_port(curve, chance):
+    """A curve's list, then a server's two numbers."""
+    def draw():
+        chosen = curve()
+        return [drawing.as_curve(chosen, chance)] + drawing.port(drawing.server_for(chosen), chance / 3)
+
+    return draw
+
+
+def beside(curve, chance):
+    """A server's two numbers, then a cross curve's list."""
+    def draw():
+        numbers, *port = at_port(curve, chance)()
+        return port + [numbers]
+
+    return draw
+
+
+def linked(curve, chance):
+    def draw():
+        chosen = curve()
+        return [drawing.as_curve(chosen, chance), drawing.link_rate(chosen, chance / 2)]
+
+    return draw
+
+
+def parts_of_one_curve():
+    """Operands whose lower has 60 to 68 buckets."""
+    curve = drawing.curve_of(rng.randint(60, 68), 300, 200)
     first = set(rng.sample(curve, len(curve) // 2))
-    return with_output(name, [flat(b for b in curve if b in first), flat(b for b in curve if b not in first)])
+    return [curve_list(b for b in curve if b in first), curve_list(b for b in curve if b not in first)]
+
+
+def link_before_a_curve():
+    """Operands whose shape by the link's rate has 60 to 65 buckets."""
+    curve = drawing.curve_of(rng.randint(60, 68), 300, 200)
+    return [curve_list(curve[1:65]), curve[0][0]]
 
 
 def sum_of_many_pairs():
     """Curves of 30 to 64 buckets whose sum has one bucket more than the stock has crossings, or fewer."""
-    stock = rng.sample(SHARED, rng.choice([40, 60, 63, 63, 64, 70]))
-    return with_output("sum", [flat(curve_of(rng.randint(30, 64), 0, 0, stock)) for _ in range(2)])
+    stock = rng.sample(drawing.SHARED, rng.choice([40, 60, 63, 63, 64, 70]))
+    return [curve_list(drawing.curve_of(rng.randint(30, 64), 0, 0, stock)) for _ in range(2)]
 
 
-# ---- the run
+def burst_at_the_end():
+    """A curve and a server: the last burst behind it is 2^40-1 or 2^40, or beside them."""
+    steeper = rng.choice([0, 1, 5])
+    curve = drawing.curve_of(rng.randint(1, 5), *rng.choice([(4, 3), (2**37, 2**17)]))
+    curve = [(rate + steeper, burst) for rate, burst in curve]
+    server = drawing.server_for(curve)
+    server = drawing.clamped(server._replace(rate=max(server.rate, curve[-1][0])))
+    last_rate, last_burst = curve[-1]
+    more = BURST_END - 1 + rng.randint(-1, 1) - last_burst - last_rate * server.latency
+    more = max(0, min(more, BURST_END - 1 - last_burst))
+    return [curve_list([(rate, burst + more) for rate, burst in curve]), *server]
+
+
+def latency_at_the_end():
+    """A server and a cross curve: the latency that is left is 2^20-1 or 2^20, or beside them."""
+    rate = rng.choice([1, 2, 3, rng.randint(1, 2000), rng.randrange(1, 2**20)])
+    quotient = rng.randrange(LATENCY_END)
+    burst = min(BURST_END - 1, max(0, rate * quotient + rng.choice([-1, 0, 0, 1])))
+    latency = LATENCY_END - 1 - quotient + rng.randint(-1, 1)
+    return [*drawing.clamped(Server(rate, latency)), curve_list([(rng.randrange(rate), burst)])]
+
+
+def joining():
+    """Two servers, some with latencies that add up to the end of the range or to one less."""
+    first, second = drawing.any_server(), drawing.any_server()
+    if rng.random() < 0.3:
+        second = drawing.clamped(Server(second.rate, LATENCY_END - rng.randint(0, 2) - first.latency))
+    return drawing.port(first, 0.12) + drawing.port(second, 0.12)
+
+
+def campaigns(tally):
+    small, large = drawing.small_curve, drawing.large_curve
+    run = tally.campaign
+    run("normalise, few and small numbers", 5000, lambda: [drawing.as_raw(drawing.small_raw(), 0.35)], "normalise")
+    run("normalise, long lists", 100, lambda: [drawing.as_raw(drawing.large_raw(), 0.2)], "normalise")
+    run("value, small curves", 3000, lambda: [drawing.as_curve(small(), 0.35), drawing.tick(0.2)], "value")
+    run("value, long curves", 60, lambda: [drawing.as_curve(large(), 0.2), drawing.tick(0.1)], "value")
+    run("lower, small curves", 3000, two_curves(small, 0.35), "lower")
+    run("lower, long curves", 50, two_curves(large, 0.2), "lower")
+    run("lower, 60 to 68 buckets", 25, parts_of_one_curve, "lower")
+    run("sum, small curves", 3000, two_curves(small, 0.35), "sum")
+    run("sum, up to 4096 pairs", 24, sum_of_many_pairs, "sum")
+    run("shape, small curves", 3000, linked(small, 0.35), "shape")
+    run("shape, long curves", 50, linked(large, 0.2), "shape")
+    run("shape, 60 to 65 buckets", 25, link_before_a_curve, "shape")
+    run("join", 3000, joining, "join")
+    run("behind, small curves", 8000, at_port(small, 0.3), "behind")
+    run("behind, long curves", 200, at_port(large, 0.15), "behind")
+    run("behind, bursts at the end of their range", 1000, burst_at_the_end, "behind")
+    run("backlog, small curves", 5000, at_port(small, 0.3), "backlog")
+    run("backlog, long curves", 80, at_port(large, 0.15), "backlog")
+    run("delay, small curves", 5000, at_port(small, 0.3), "delay")
+    run("delay, long curves", 80, at_port(large, 0.15), "delay")
+    run("residual, small curves", 4000, beside(small, 0.3), "residual")
+    run("residual, long curves", 60, beside(large, 0.15), "residual")
+    run("residual, latencies at the end of their range", 1000, latency_at_the_end, "residual")
+    run("read, files of small profiles", 8000, lambda: [drawing.some_file(small(), 0.6)], "read")
+    run("read, long files", 100, lambda: [drawing.some_file(large(), 0.5)], "read")
+    run("write_curve, small curves", 2000, lambda: [drawing.as_curve(small(), 0.3)], "write_curve")
+    run("write_curve, long curves", 60, lambda: [drawing.as_curve(large(), 0.2)], "write_curve")
+    run("write_server", 2000, lambda: drawing.port(drawing.any_server(), 0.3), "write_server")
+    run("route, small curves", 2500, lambda: [drawing.route_input(small(), 0.4)], "route")
+    run("route, long curves", 20, lambda: [drawing.route_input(large(), 0.2)], "route")
+
+
+def every_length(tally):
+    """Outputs of every length."""
+    full = drawing.curve_of(64, 300, 200)
+    route = profiles.curve_file(C) + b"".join(profiles.server_file(Server(5, latency)) for latency in range(8))
+    for name, operands in [
+        ("normalise", [raw_list(full[::-1])]),
+        ("lower", [curve_list(full[0::2]), curve_list(full[1::2])]),
+        ("sum", [curve_list(full[:30]), curve_list(C)]),
+        ("shape", [curve_list(full[1:]), full[0][0]]),
+        ("behind", [curve_list(full), *Server(full[40][0], 1)]),
+        ("read", [profiles.curve_file(full)]),
+        ("write_curve", [curve_list(full)]),
+        ("write_server", [*Server(6, 1)]),
+        ("route", [route]),
+    ]:
+        tally.every_length(name, operands)
+
+
+def coverage(tally):
+    """Every code that a call can give came up, and every refusal inside a route, at the curve, the first and a later server."""
+    for name, call in CALLS.items():
+        times = {code: count for (other, code), count in sorted(tally.codes.items()) if other == name}
+        print(f"{name}:", ", ".join(f"code {code} {count} times" for code, count in times.items()))
+        tally.test(f"{name} came up with every code it can give", sorted(call.codes ^ set(times)))
+
+    at_servers = {HEADER, LENGTH, RANGE, UNBOUNDED, LARGE}
+    for name, places, codes in [
+        ("the curve", range(1, 2), {HEADER, LENGTH, PAD, FORM}),
+        ("the first server", range(2, 3), at_servers),
+        ("a later server", range(3, MOST_SERVERS + 2), at_servers),
+        ("bytes after 32 servers", range(MOST_SERVERS + 2, 100), {COUNT}),
+    ]:
+        found = {code for code, place in tally.refused_routes if place in places}
+        print(f"route refused at {name}:", ", ".join(map(str, sorted(found))))
+        tally.test(f"routes were refused at {name} with every code that can come up there", sorted(found ^ codes))
 
 
 def main(path):
-    functions = load(path)
-    passed, failed, seen = 0, 0, Counter()
-
-    def judge(good, told):
-        nonlocal passed, failed
-        if good:
-            passed += 1
-        else:
-            failed += 1
-            if failed <= 10:
-                print("FAILED", told())
-
-    def compare(name, arguments):
-        wanted = expected(name, arguments)
-        got = call(functions[name], arguments)
-        seen[name, wanted[0][0]] += 1
-        judge(got == wanted, lambda: f"{name} {arguments}\n  expected {wanted}\n  got      {got}")
-
-    for _ in range(SELF_CASES):
-        raw = buckets(small_raw())
-        judge(reference.normal_form(raw) == reference.normal_form_by_trial(raw), lambda: f"the reference itself on {raw}")
-
-    names = list(SIGNATURES)
-    for case in range(SMALL_CASES):
-        name = names[case % len(names)]
-        compare(name, random_call(small_curve, small_raw, 0.35, name))
-    for case in range(LARGE_CASES):
-        name = ["normalise", "value", "lower", "shape"][case % 4]
-        compare(name, random_call(large_curve, large_raw, 0.2, name))
-    for case in range(LARGE_PARTS):
-        name = ["lower", "shape"][case % 2]
-        compare(name, parts_of_one_curve(name))
-    for _ in range(LARGE_SUMS):
-        compare("sum", sum_of_many_pairs())
-
-    for name in names:
-        codes = sorted((code, count) for (other, code), count in seen.items() if other == name)
-        print(f"{name}:", ", ".join(f"code {code} {count} times" for code, count in codes))
-        possible = {"normalise": {0, 4, 5, 6, 10}, "value": {0, 4, 5, 6, 7}}.get(name, {0, 4, 5, 6, 7, 9, 10})
-        judge({code for code, _ in codes} == possible, lambda: f"{name} was not tried with every code it can give: {sorted(possible)}")
-    print(f"{passed} passed, {failed} failed")
-    return failed != 0
+    tally = Tally(library.load(path))
+    figures(tally)
+    references(tally)
+    campaigns(tally)
+    every_length(tally)
+    coverage(tally)
+    print(f"{tally.passed} passed, {tally.failed} failed")
+    return tally.failed != 0
 
 
 if __name__ == "__main__":

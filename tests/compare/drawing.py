@@ -1,0 +1,253 @@
+"""Random lists, servers, files and inputs of routes: good and damaged, long and short. The seed is fixed, so every run is the same."""
+
+import random
+from fractions import Fraction
+from math import gcd
+
+import curves
+import profiles
+from rules import (
+    BURST_END, CURVE_NUMBERS, LATENCY_END, MOST_SERVERS, RATE_END, RAW_NUMBERS, TICK_END,
+    Server, curve_list, raw_buckets, raw_list,
+)
+
+rng = random.Random(20240611)
+
+# ---- buckets
+
+
+def small_raw():
+    """Few and small numbers: many ties, copies and useless buckets."""
+    rates, bursts = rng.choice([(3, 4), (7, 10), (12, 40)])
+    return [(rng.randrange(rates), rng.randrange(bursts)) for _ in range(rng.randint(1, 8))]
+
+
+def steps_to_curve(steps, last_rate, first_burst):
+    """The curve whose buckets cross at rise/fall, for steps (rise, fall) of different quotients."""
+    steps = sorted(steps, key=lambda step: Fraction(*step))
+    rate, burst = last_rate + sum(fall for _, fall in steps), first_burst
+    curve = [(rate, burst)]
+    for rise, fall in steps:
+        rate, burst = rate - fall, burst + rise
+        curve.append((rate, burst))
+    return curve
+
+
+def curve_of(count, rise_end, fall_end, quotients=None):
+    """A curve in normal form of so many buckets, if the numbers allow so many different crossings."""
+    steps = {}
+    for _ in range(4 * count):
+        if len(steps) == count - 1:
+            break
+        if quotients:
+            numerator, denominator = rng.choice(quotients)
+            scale = rng.randint(1, 3)
+            rise, fall = numerator * scale, denominator * scale
+        else:
+            rise, fall = rng.randint(1, rise_end), rng.randint(1, fall_end)
+        steps.setdefault(Fraction(rise, fall), (rise, fall))
+    return steps_to_curve(steps.values(), 0, 0)
+
+
+def moved(curve):
+    """The curve with every rate and every burst raised by one number each, sometimes as far as the range goes."""
+    rate_left, burst_left = RATE_END - 1 - curve[0][0], BURST_END - 1 - curve[-1][1]
+    more_rate = rng.choice([0, 0, rng.randrange(5), rate_left, rate_left // 2])
+    more_burst = rng.choice([0, 0, rng.randrange(5), burst_left, burst_left // 2])
+    return [(rate + min(more_rate, rate_left), burst + min(more_burst, burst_left)) for rate, burst in curve]
+
+
+def small_curve():
+    if rng.random() < 0.5:
+        return curves.normal_form(small_raw())
+    curve = curve_of(rng.randint(1, 6), *rng.choice([(4, 3), (20, 9), (2**37, 2**17)]))
+    return moved(curve) if rng.random() < 0.4 else curve
+
+
+SHARED = [(p, q) for p in range(1, 12) for q in range(1, 12) if gcd(p, q) == 1]
+
+
+def large_curve():
+    count = rng.choice([rng.randint(20, 64), 63, 64, 64])
+    kind = rng.randrange(3)
+    if kind == 0:
+        curve = curve_of(count, 300, 200)
+    elif kind == 1:
+        curve = curve_of(count, 2**34 - 1, 2**14 - 1)
+    else:
+        curve = curve_of(count, 0, 0, SHARED)
+    return moved(curve) if rng.random() < 0.4 else curve
+
+
+def large_raw():
+    """Up to 64 buckets of a curve's and others, in any order."""
+    raw = large_curve()
+    raw = rng.sample(raw, rng.randint(1, len(raw)))
+    while len(raw) < 64 and rng.random() < 0.97:
+        rate, burst = rng.choice(raw)
+        raw.append((min(RATE_END - 1, max(0, rate + rng.randint(-2, 2))), min(BURST_END - 1, max(0, burst + rng.randint(-2, 40)))))
+    rng.shuffle(raw)
+    return raw
+
+
+# ---- lists
+
+
+def damaged(numbers, for_each):
+    """One or two things changed that may break a rule, in a list of so many numbers for each bucket."""
+    numbers = list(numbers)
+    for _ in range(rng.randint(1, 2)):
+        place = rng.randrange(len(numbers)) if numbers else 0
+        kind = rng.randrange(9)
+        if kind == 0:
+            numbers = numbers[:place]
+        elif kind == 1:
+            numbers.append(rng.choice([0, 1, RATE_END]))
+        elif kind == 2 and numbers:
+            numbers[place] = rng.choice([RATE_END - 1, RATE_END, RATE_END + 1, BURST_END - 1, BURST_END, 2**63, 2**64 - 1])
+        elif kind == 3 and numbers:
+            numbers[place] = min(2**64 - 1, max(0, numbers[place] + rng.choice([-2, -1, 1, 2])))
+        elif kind == 4:
+            swapped = [numbers[at:at + for_each] for at in range(0, len(numbers), for_each)]
+            rng.shuffle(swapped)
+            numbers = sum(swapped, [])
+        elif kind == 5:
+            numbers = numbers + numbers[-for_each:]
+        elif kind == 6:
+            numbers = numbers[for_each:] + numbers[:for_each]
+        elif kind == 7 and rng.random() < 0.5:
+            most = 64 * for_each
+            numbers = (numbers * (most + 3))[: rng.randint(most - 2, most + 3)]
+        elif kind == 8 and rng.random() < 0.2:
+            numbers = []
+    return numbers
+
+
+def as_raw(raw, chance):
+    """A raw list, damaged with some chance."""
+    numbers = raw_list(raw)
+    return damaged(numbers, RAW_NUMBERS) if rng.random() < chance else numbers
+
+
+def as_curve(curve, chance):
+    """A curve's list, damaged with some chance."""
+    numbers = curve_list(curve)
+    return damaged(numbers, CURVE_NUMBERS) if rng.random() < chance else numbers
+
+
+# ---- numbers
+
+
+def tick(chance):
+    ends = [0, 1, 2, rng.randrange(200), rng.randrange(TICK_END), TICK_END - 1]
+    return rng.choice([TICK_END, 2**64 - 1] if rng.random() < chance else ends)
+
+
+def link_rate(curve, chance):
+    rates = [1, 2, rng.randint(1, 20), max(1, curve[0][0]), rng.randrange(1, RATE_END), RATE_END - 1]
+    return rng.choice([0, RATE_END, 2**64 - 1] if rng.random() < chance else rates)
+
+
+def clamped(server):
+    return Server(min(RATE_END - 1, max(1, server.rate)), min(LATENCY_END - 1, max(0, server.latency)))
+
+
+def server_for(curve):
+    """A server in range that has something to do with the curve: a rate at or beside one of its rates, a latency at or beside one of
+    its crossings, or one with which the last burst just fits, or does not."""
+    (last_rate, last_burst), (some_rate, _) = curve[-1], rng.choice(curve)
+    rates = [last_rate, last_rate + 1, last_rate - 1, some_rate, some_rate + rng.randint(-1, 1), curve[0][0] + 1]
+    rates += [(some_rate + last_rate + 1) // 2, rng.randint(1, 12), rng.randrange(1, RATE_END), RATE_END - 1]
+    crossing = Fraction(0)
+    if len(curve) > 1:
+        place = rng.randrange(1, len(curve))
+        crossing = Fraction(curve[place][1] - curve[place - 1][1], curve[place - 1][0] - curve[place][0])
+    fits = (BURST_END - 1 - last_burst) // max(1, last_rate)
+    latencies = [0, 0, 1, rng.randint(0, 20), int(crossing) + rng.randint(-1, 2), fits + rng.randint(0, 1)]
+    latencies += [rng.randrange(LATENCY_END), LATENCY_END - 1]
+    return clamped(Server(rng.choice(rates), rng.choice(latencies)))
+
+
+def any_server():
+    latency = rng.choice([0, 1, rng.randint(0, 20), LATENCY_END // 2, LATENCY_END // 2 - 1, rng.randrange(LATENCY_END), LATENCY_END - 1])
+    return Server(rng.choice([1, 2, rng.randint(1, 12), rng.randrange(1, RATE_END), RATE_END - 1]), latency)
+
+
+def port(server, chance):
+    """The numbers of a server, one of them out of range with some chance."""
+    if rng.random() < chance:
+        beyond = [RATE_END, RATE_END + 1, 2**63, 2**64 - 1]
+        server = rng.choice([server._replace(rate=rng.choice([0] + beyond)), server._replace(latency=rng.choice(beyond))])
+    return list(server)
+
+
+# ---- files
+
+
+def flipped(file, bit):
+    return file[:bit // 8] + bytes([file[bit // 8] ^ (128 >> bit % 8)]) + file[bit // 8 + 1:]
+
+
+def good_file(curve):
+    if rng.random() < 0.3:
+        return profiles.server_file(any_server())
+    return profiles.curve_file(curve)
+
+
+def of_unsorted(curve):
+    """A curve's file with its buckets in another order."""
+    mixed = list(curve)
+    rng.shuffle(mixed)
+    return profiles.curve_file(mixed)
+
+
+def damaged_file(file, curve):
+    kind = rng.randrange(10)
+    if kind <= 2 and file:
+        return flipped(file, rng.randrange(8 * len(file)))
+    if kind == 3 and file:
+        return flipped(file, 8 * len(file) - rng.randint(1, 6))
+    if kind == 4:
+        return file[:rng.randrange(len(file) + 1)]
+    if kind == 5:
+        return file + rng.choice([b"\0", file[:1], file, rng.randbytes(rng.randint(1, 20))])
+    if kind == 6:
+        return file[:2] + rng.randbytes(max(0, len(file) - 2))
+    if kind == 7:
+        return rng.randbytes(rng.randint(0, 30))
+    if kind == 8:
+        return of_unsorted(curve)
+    return profiles.server_file(Server(0, rng.randrange(LATENCY_END)))
+
+
+def some_file(curve, chance):
+    file = good_file(curve)
+    return damaged_file(file, curve) if rng.random() < chance else file
+
+
+# ---- inputs of routes
+
+
+def route_servers(curve, count):
+    """Servers of which most take the curve and its successors, with latencies that leave room for more."""
+    servers = []
+    for _ in range(count):
+        server = server_for(curve)
+        if rng.random() < 0.9:
+            server = clamped(Server(max(server.rate, curve[-1][0]), rng.choice([server.latency, rng.randint(0, 9)]) % (LATENCY_END // 16)))
+        servers.append(server)
+    return servers
+
+
+def route_input(curve, chance):
+    count = rng.choice([1, 1, 2, 2, 3, 4, 5, rng.randint(6, MOST_SERVERS), MOST_SERVERS, MOST_SERVERS + 1])
+    parts = [profiles.curve_file(curve)] + [profiles.server_file(server) for server in route_servers(curve, count)]
+    if rng.random() < chance:
+        place = rng.choice([0, rng.randrange(len(parts)), rng.randrange(len(parts))])
+        if rng.random() < 0.15:
+            parts[place] = profiles.curve_file(curve) if place else profiles.server_file(any_server())
+        else:
+            parts[place] = damaged_file(parts[place], curve)
+        if rng.random() < 0.3:
+            del parts[place + 1:]
+    return b"".join(parts)

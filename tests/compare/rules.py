@@ -1,0 +1,70 @@
+"""What the rules fix: the numbers of the refusals, the ranges, and how buckets and servers stand in lists. One place for each.
+
+A bucket is a pair (rate, burst), a curve or a raw collection of buckets is a list of pairs.
+"""
+
+from typing import NamedTuple
+
+HEADER, LENGTH, PAD, LIST, COUNT, RANGE, FORM, UNBOUNDED, LARGE, ROOM = range(1, 11)
+
+RATE_END, LATENCY_END, BURST_END, TICK_END = 2**20, 2**20, 2**40, 2**40
+MOST_BUCKETS, MOST_SERVERS = 64, 32
+EDITION, CURVE_KIND, SERVER_KIND = 1, 1, 2
+
+RAW_NUMBERS = 2  # for each bucket of a raw list
+CURVE_NUMBERS = 2  # for each bucket of a curve's list
+
+
+class Server(NamedTuple):
+    """A server; its numbers are passed in this order."""
+
+    rate: int
+    latency: int
+
+
+SERVER_NUMBERS = len(Server._fields)
+NO_SERVER = Server(0, 0)
+
+
+def raw_buckets(numbers):
+    """The whole buckets of a raw list."""
+    return list(zip(numbers[0::RAW_NUMBERS], numbers[1::RAW_NUMBERS]))
+
+
+def raw_list(some_buckets):
+    return [number for bucket in some_buckets for number in bucket]
+
+
+def curve_buckets(numbers):
+    """The whole buckets of a curve's list."""
+    return list(zip(numbers[0::CURVE_NUMBERS], numbers[1::CURVE_NUMBERS]))
+
+
+def curve_list(curve):
+    return [number for bucket in curve for number in bucket]
+
+
+def bucket_in_range(bucket):
+    rate, burst = bucket
+    return 0 <= rate < RATE_END and 0 <= burst < BURST_END
+
+
+def server_in_range(server):
+    return 1 <= server.rate < RATE_END and 0 <= server.latency < LATENCY_END
+
+
+class Exact(NamedTuple):
+    """What a question must give, but for the room: the lines of the table that hold, and if none does the figures behind the code and
+    what stands at the start of the output."""
+
+    lines: set
+    figures: tuple
+    output: object = ()
+
+
+def outcome(exact, out):
+    """All figures with the code first, and the output list or buffer afterwards."""
+    lines = exact.lines | ({ROOM} if len(out) < len(exact.output) else set())
+    if lines:
+        return (min(lines),) + (0,) * len(exact.figures), out
+    return (0,) + exact.figures, type(out)(exact.output) + out[len(exact.output):]

@@ -1,0 +1,316 @@
+//! The comparisons: campaigns of pseudo-random questions of one kind, the references against the
+//! definitions, and the figures that the scope has written down.
+
+use super::curves::{added, all_pairs, hull, is_normal_form_of};
+use super::lists::*;
+use super::ports::*;
+use super::profiles::{curve_file, server_file};
+use super::questions::{self, at_port, exact, of_two, Operation, Question};
+use super::random::Rng;
+use super::rules::*;
+use super::run::Run;
+use super::servers::{backlog, behind, behind_by_definition, delay, greatest, value};
+use Operation::*;
+
+// ---- questions
+
+fn short_normalise(rng: &mut Rng) -> Question {
+    let list = small_list(rng);
+    questions::normalise(&as_raw(rng, &list, 4))
+}
+
+fn long_normalise(rng: &mut Rng) -> Question {
+    let list = large_list(rng);
+    questions::normalise(&as_raw(rng, &list, 6))
+}
+
+fn value_of(rng: &mut Rng, curve: &[Bucket]) -> Question {
+    let f = as_curve(rng, curve, 4);
+    let tick =
+        if rng.one_in(8) { rng.pick(&[TICK_END, TICK_END + 1, 1 << 63, u64::MAX]) } else { good_tick(rng, curve) };
+    questions::value(&f, tick)
+}
+
+fn short_value(rng: &mut Rng) -> Question {
+    let curve = small_curve(rng);
+    value_of(rng, &curve)
+}
+
+fn long_value(rng: &mut Rng) -> Question {
+    let curve = large_curve(rng);
+    value_of(rng, &curve)
+}
+
+fn short_of_two(rng: &mut Rng, operation: Operation) -> Question {
+    let [f, g] = small_pair(rng).map(|curve| as_curve(rng, &curve, 6));
+    of_two(operation, &f, &g)
+}
+
+fn long_of_two(rng: &mut Rng, operation: Operation) -> Question {
+    let [f, g] = [large_curve(rng), large_curve(rng)].map(|curve| as_curve(rng, &curve, 12));
+    of_two(operation, &f, &g)
+}
+
+/// One curve of 60 to 68 buckets dealt out.
+fn dealt_out(rng: &mut Rng) -> Question {
+    let count = 60 + rng.place(9);
+    let curve = curve_of(rng, count, 200, 300);
+    let (f, g): (Vec<Bucket>, Vec<Bucket>) = curve.iter().partition(|_| rng.one_in(2));
+    of_two(Lower, &curve_list(&f), &curve_list(&g))
+}
+
+fn parallel_sum(rng: &mut Rng) -> Question {
+    let [f, g] = large_pair(rng).map(|curve| curve_list(&curve));
+    of_two(Sum, &f, &g)
+}
+
+fn shape_of(rng: &mut Rng, curve: &[Bucket]) -> Question {
+    let f = as_curve(rng, curve, 4);
+    let rate = if rng.one_in(8) { rng.pick(&[0, RATE_END, RATE_END + 1, u64::MAX]) } else { good_link(rng, curve) };
+    questions::shape(&f, rate)
+}
+
+fn short_shape(rng: &mut Rng) -> Question {
+    let curve = small_curve(rng);
+    shape_of(rng, &curve)
+}
+
+fn long_shape(rng: &mut Rng) -> Question {
+    let curve = large_curve(rng);
+    shape_of(rng, &curve)
+}
+
+/// The link and the rest of one curve, which has 60 to 65 buckets.
+fn link_first(rng: &mut Rng) -> Question {
+    let count = 60 + rng.place(6);
+    let curve = curve_of(rng, count, 200, 300);
+    questions::shape(&curve_list(&curve[1..]), curve[0].rate)
+}
+
+fn joining(rng: &mut Rng) -> Question {
+    let [server, next] = two_servers(rng);
+    questions::join(server, next)
+}
+
+fn short_port(rng: &mut Rng, operation: Operation) -> Question {
+    let curve = small_curve(rng);
+    let server = server_for(rng, &curve);
+    let server = maybe_beyond(rng, server, 12);
+    at_port(operation, &as_curve(rng, &curve, 6), server)
+}
+
+fn long_port(rng: &mut Rng, operation: Operation) -> Question {
+    let curve = large_curve(rng);
+    let server = server_for(rng, &curve);
+    let server = maybe_beyond(rng, server, 20);
+    at_port(operation, &as_curve(rng, &curve, 12), server)
+}
+
+fn port_at_the_end(rng: &mut Rng) -> Question {
+    let (curve, server) = burst_at_the_end(rng);
+    at_port(Behind, &curve_list(&curve), server)
+}
+
+fn residual_at_the_end(rng: &mut Rng) -> Question {
+    let (cross, server) = latency_at_the_end(rng);
+    at_port(Residual, &curve_list(&cross), server)
+}
+
+fn short_read(rng: &mut Rng) -> Question {
+    let curve = small_curve(rng);
+    questions::read(&some_file(rng, &curve))
+}
+
+fn long_read(rng: &mut Rng) -> Question {
+    let curve = large_curve(rng);
+    questions::read(&some_file(rng, &curve))
+}
+
+fn short_route(rng: &mut Rng) -> Question {
+    let curve = small_curve(rng);
+    questions::route(&route_input(rng, &curve))
+}
+
+fn long_route(rng: &mut Rng) -> Question {
+    let curve = large_curve(rng);
+    questions::route(&route_input(rng, &curve))
+}
+
+type Draw = fn(&mut Rng) -> Question;
+
+/// Each campaign is a test: its name, how many inputs, and how one is drawn.
+const CAMPAIGNS: &[(&str, usize, Draw)] = &[
+    ("normalise, short lists", 150_000, short_normalise),
+    ("normalise, long lists", 6_000, long_normalise),
+    ("value, short curves", 100_000, short_value),
+    ("value, long curves", 6_000, long_value),
+    ("lower, short curves", 150_000, |rng| short_of_two(rng, Lower)),
+    ("lower, long curves", 3_000, |rng| long_of_two(rng, Lower)),
+    ("lower, one curve dealt out", 3_000, dealt_out),
+    ("sum, short curves", 150_000, |rng| short_of_two(rng, Sum)),
+    ("sum, long curves", 80, |rng| long_of_two(rng, Sum)),
+    ("sum, long curves with parallel edges", 200, parallel_sum),
+    ("shape, short curves", 100_000, short_shape),
+    ("shape, long curves", 3_000, long_shape),
+    ("shape, 60 to 65 buckets", 3_000, link_first),
+    ("join", 200_000, joining),
+    ("behind, short curves", 250_000, |rng| short_port(rng, Behind)),
+    ("behind, long curves", 6_000, |rng| long_port(rng, Behind)),
+    ("behind, bursts at the end of their range", 50_000, port_at_the_end),
+    ("backlog, short curves", 150_000, |rng| short_port(rng, Backlog)),
+    ("backlog, long curves", 6_000, |rng| long_port(rng, Backlog)),
+    ("delay, short curves", 150_000, |rng| short_port(rng, Delay)),
+    ("delay, long curves", 4_000, |rng| long_port(rng, Delay)),
+    ("residual, short curves", 100_000, |rng| short_port(rng, Residual)),
+    ("residual, long curves", 3_000, |rng| long_port(rng, Residual)),
+    ("residual, latencies at the end of their range", 50_000, residual_at_the_end),
+    ("read, short files", 250_000, short_read),
+    ("read, long files", 15_000, long_read),
+    ("read, random bytes under a good header", 100_000, |rng| questions::read(&random_under_header(rng))),
+    ("write_curve, short curves", 100_000, |rng| {
+        let curve = small_curve(rng);
+        questions::write_curve(&as_curve(rng, &curve, 4))
+    }),
+    ("write_curve, long curves", 6_000, |rng| {
+        let curve = large_curve(rng);
+        questions::write_curve(&as_curve(rng, &curve, 8))
+    }),
+    ("write_server", 100_000, |rng| {
+        let server = any_server(rng);
+        questions::write_server(maybe_beyond(rng, server, 4))
+    }),
+    ("route, short curves", 60_000, short_route),
+    ("route, long curves", 300, long_route),
+];
+
+pub fn names() -> impl Iterator<Item = &'static str> {
+    CAMPAIGNS.iter().map(|(name, ..)| *name)
+}
+
+pub fn campaigns(run: &mut Run) {
+    for (name, count, draw) in CAMPAIGNS {
+        for _ in 0..*count {
+            let question = draw(&mut run.rng);
+            run.compare(name, &question);
+        }
+    }
+}
+
+// ---- the references themselves
+
+const REFERENCE_CASES: usize = 10_000;
+
+/// The closed forms of the references against the definitions.
+pub fn references(run: &mut Run) {
+    for case in 0..REFERENCE_CASES {
+        let long = case % 100 == 0;
+        let raw = if long { large_list(&mut run.rng) } else { small_list(&mut run.rng) };
+        let good = is_normal_form_of(&hull(&raw), &raw);
+        run.check("reference: the hull is the normal form", good, || format!("{raw:?}"));
+        let [f, g] = if long { large_pair(&mut run.rng) } else { small_pair(&mut run.rng) };
+        let (sum, pairs) = (added(&f, &g), all_pairs(&f, &g));
+        let good = sum == hull(&pairs) && is_normal_form_of(&sum, &pairs);
+        run.check("reference: the sum by edges is that by all pairs", good, || format!("{f:?} {g:?}"));
+        let server = bounded_server_for(&mut run.rng, &f);
+        let good = behind(&f, server) == behind_by_definition(&f, server);
+        run.check("reference: behind in one pass is that by definition", good, || format!("{f:?} {server:?}"));
+        reference_by_ticks(run);
+    }
+}
+
+/// Figures of small numbers by trying every tick.
+fn reference_by_ticks(run: &mut Run) {
+    let curve = loop {
+        let curve = hull(&small_list(&mut run.rng));
+        if curve[curve.len() - 1].burst < 60 && curve[0].rate < 60 {
+            break curve;
+        }
+    };
+    let rate = (curve[curve.len() - 1].rate + run.rng.below(5)).max(1);
+    let server = server(rate, run.rng.below(12));
+    let late = |tick: u64, d: u64| value(&curve, tick) - server.served(tick + d) as i128;
+    let most = |d: u64| (0..150).map(|tick| late(tick, d)).max().expect("a tick");
+    let good = i128::from(backlog(&curve, server)) == most(0) && greatest(|tick| late(tick, 0)).1 == most(0);
+    run.check("reference: backlog by halving is that by trying", good, || format!("{curve:?} {server:?}"));
+    let good = (0..).find(|&d| most(d) <= 0) == Some(delay(&curve, server));
+    run.check("reference: delay by halving is that by trying", good, || format!("{curve:?} {server:?}"));
+}
+
+// ---- figures that are written down
+
+fn figure(run: &mut Run, name: &'static str, question: Question, code: u32, figures: [u64; 4], output: &[u64]) {
+    let exact = exact(&question);
+    let reference = winner(exact.lines(usize::MAX)) == code
+        && (code != 0 || (exact.figures == figures && curve_list(&exact.buckets) == output));
+    let told = run.answer(&question);
+    let list = if question.operation == Read { told.list_read() } else { told.list() };
+    let good = told.code == u64::from(code) && told.stayed && told.figures == figures && list == output;
+    run.check(name, good && reference, || {
+        format!("{question:?}\n  told {told:?}, the reference is right: {reference}")
+    });
+}
+
+fn bytes_figure(run: &mut Run, name: &'static str, question: Question, bytes: &[u8]) {
+    let told = run.answer(&question);
+    let good = told.answered() && told.bytes() == bytes && exact(&question).figures == told.figures;
+    run.check(name, good, || format!("{question:?}\n  told {told:?}"));
+}
+
+pub fn figures(run: &mut Run) {
+    let c = curve_list(&[bucket(10, 2), bucket(3, 20)]);
+    let list = |numbers: &[u64]| curve_list(&raw_buckets(numbers));
+    let one = |figure: u64| [figure, 0, 0, 0];
+    let curve = |run: &mut Run, name, question, answer: &[u64]| {
+        figure(run, name, question, 0, one((answer.len() / RAW_NUMBERS) as u64), &list(answer));
+    };
+    let number = |run: &mut Run, name, question, answer| figure(run, name, question, 0, one(answer), &[]);
+    let server_is = |run: &mut Run, name, question, answer: Server| {
+        figure(run, name, question, 0, [answer.rate, answer.latency, 0, 0], &[]);
+    };
+    let refused = |run: &mut Run, name, question, code| figure(run, name, question, code, [0; 4], &[]);
+    let normalise = |raw: &[u64]| questions::normalise(raw);
+    let port = |operation, curve: &[u64], rate, latency| at_port(operation, &list(curve), server(rate, latency));
+
+    curve(run, "P1", normalise(&[3, 20, 10, 2, 10, 2, 5, 15, 3, 25]), &[10, 2, 3, 20]);
+    curve(run, "P2", normalise(&[4, 0, 3, 1, 2, 2]), &[4, 0, 2, 2]);
+    curve(run, "P3", normalise(&[10, 0, 4, 2, 0, 5]), &[10, 0, 4, 2, 0, 5]);
+    curve(run, "P4", of_two(Sum, &c, &list(&[4, 0, 2, 2])), &[14, 2, 12, 4, 5, 22]);
+    curve(run, "P5", at_port(Behind, &c, server(6, 1)), &[6, 17, 3, 23]);
+    number(run, "P5", at_port(Backlog, &c, server(6, 1)), 17);
+    number(run, "P5", at_port(Delay, &c, server(6, 1)), 3);
+    curve(run, "P6", at_port(Behind, &c, server(6, 4)), &[3, 32]);
+    number(run, "P6", at_port(Backlog, &c, server(6, 4)), 32);
+    number(run, "P6", at_port(Delay, &c, server(6, 4)), 6);
+    curve(run, "P7", port(Behind, &[3, 32], 5, 2), &[3, 38]);
+    number(run, "P7", port(Delay, &[3, 32], 5, 2), 9);
+    server_is(run, "P7", questions::join(server(6, 4), server(5, 2)), server(5, 6));
+    curve(run, "P7", at_port(Behind, &c, server(5, 6)), &[3, 38]);
+    number(run, "P7", at_port(Delay, &c, server(5, 6)), 9);
+    curve(run, "P8", port(Behind, &[5, 7], 5, 2), &[5, 17]);
+    number(run, "P8", port(Delay, &[5, 7], 5, 2), 4);
+    for operation in [Behind, Backlog, Delay] {
+        refused(run, "P8", port(operation, &[6, 7], 5, 2), UNBOUNDED);
+    }
+    number(run, "P9", port(Backlog, &[0, 0], 5, 2), 0);
+    number(run, "P9", port(Delay, &[0, 0], 5, 2), 0);
+    number(run, "P9", port(Backlog, &[5, 0], 10, 3), 15);
+    number(run, "P9", port(Delay, &[5, 0], 10, 3), 3);
+    server_is(run, "P10", at_port(Residual, &c, server(6, 1)), server(3, 5));
+    let server_bytes = [0x12, 0x00, 0x00, 0x60, 0x00, 0x01];
+    let curve_bytes = [0x11, 0x00, 0x00, 0x02, 0x80, 0x00, 0x00, 0x00, 0x00, 0x80];
+    bytes_figure(run, "P11", questions::write_server(server(6, 1)), &server_bytes);
+    bytes_figure(run, "P11", questions::write_curve(&list(&[10, 2])), &curve_bytes);
+    figure(run, "P11", questions::read(&server_bytes), 0, [2, 0, 6, 1], &[]);
+    figure(run, "P11", questions::read(&curve_bytes), 0, [1, 1, 0, 0], &list(&[10, 2]));
+    let input = [curve_file(&curve_buckets(&c)), server_file(server(6, 4)), server_file(server(5, 2))].concat();
+    bytes_figure(run, "P12", questions::route(&input), b"hop 1 32 6\nhop 2 38 9\nroute 38 9\n");
+
+    curve(run, "shape {(3,20)} by 10", questions::shape(&list(&[3, 20]), 10), &[10, 0, 3, 20]);
+    let most = server(1, LATENCY_END - 1);
+    server_is(run, "join (1, 2^20-1) with (1, 0)", questions::join(most, server(1, 0)), most);
+    refused(run, "join (1, 2^20-1) with (1, 1)", questions::join(most, server(1, 1)), LARGE);
+    curve(run, "64 raw buckets", normalise(&[7, 9].repeat(64)), &[7, 9]);
+    refused(run, "65 raw buckets", normalise(&[7, 9].repeat(65)), COUNT);
+    curve(run, "burst 2^40-1", normalise(&[0, BURST_END - 1]), &[0, BURST_END - 1]);
+    refused(run, "burst 2^40", normalise(&[0, BURST_END]), RANGE);
+}

@@ -1,0 +1,434 @@
+//! Laws that the library's own answers must keep. Each is a test; its inputs are pseudo-random.
+
+use super::curves::{all_pairs, is_normal_form_of, least};
+use super::lent::ask_of_one_list;
+use super::library;
+use super::lists::*;
+use super::ports::*;
+use super::profiles::{curve_file, server_file, CURVE_KIND, SERVER_KIND};
+use super::questions::{self, at_port, of_two, Operation, Told};
+use super::rules::*;
+use super::run::Run;
+use super::servers::{behind_raw, greatest};
+use Operation::*;
+
+const SHORT: usize = 8_000;
+const LONG: usize = 30;
+const LONG_EACH: usize = 20;
+const DECIDING_BYTES: usize = 675;
+
+const NORMAL_ANSWERS: &str = "law: an answer is the normal form of its raw buckets";
+const NORMAL_AGAIN: &str = "law: normalise of an answer is the answer";
+const NORMALISE_ANSWERS: &str = "law: normalise answers buckets in range";
+const NORMALISE_VALUE: &str = "law: the value of a normal form is the least of the raw buckets";
+const NORMALISE_ORDER: &str = "law: normalise in another order";
+const LOWER_ITSELF: &str = "law: lower of a curve with itself";
+const SUM_ITSELF: &str = "law: sum of a curve with itself";
+const SUM_NOTHING: &str = "law: the sum with the curve 0";
+const LENT_TWICE: &str = "law: one list lent twice";
+const SHAPE_IS_LOWER: &str = "law: shape is lower with the link's bucket";
+const SHAPE_VALUE: &str = "law: the value of shape is the smaller of curve and link";
+const LOWER_TURNED: &str = "law: lower the other way round";
+const SUM_TURNED: &str = "law: sum the other way round";
+const LOWER_VALUE: &str = "law: the value of lower is the smaller value";
+const SUM_VALUE: &str = "law: the value of sum is the sum of values";
+const SUM_OVER_LOWER: &str = "law: sum over lower";
+const JOIN_TURNED: &str = "law: join the other way round";
+const JOIN_GROUPED: &str = "law: join in another grouping";
+const BEHIND_GREATEST: &str = "law: behind at a tick is the greatest over u of value(t+u) minus what is served by u";
+const BACKLOG_BEHIND: &str = "law: backlog is the value of behind at 0";
+const DELAY_ENOUGH: &str = "law: what has come by a tick is served when the delay is over";
+const DELAY_LEAST: &str = "law: one tick less than the delay is too short at some tick";
+const REFUSED_ALIKE: &str = "law: behind, backlog and delay refuse alike, but for LARGE";
+const ONE_STEP: &str = "law: hop by hop is one step through the joined server";
+const ONE_STEP_TURNED: &str = "law: the hops the other way round give the same curve";
+const DELAYS_ADDED: &str = "law: the delay of one step is at most the two delays added";
+const RESIDUAL_LEAST: &str = "law: the residual server never serves more than what is left";
+const WRITTEN_READ: &str = "law: a profile written and read again is the same";
+const READ_WRITTEN: &str = "law: a file accepted and written again is the same";
+const ROUTE_BY_CALLS: &str = "law: a route's text has the figures of the single calls";
+const ROUTE_DECIDED: &str = "law: 675 bytes decide a route";
+
+pub const NAMES: &[&str] = &[
+    NORMAL_ANSWERS,
+    NORMAL_AGAIN,
+    NORMALISE_ANSWERS,
+    NORMALISE_VALUE,
+    NORMALISE_ORDER,
+    LOWER_ITSELF,
+    SUM_ITSELF,
+    SUM_NOTHING,
+    LENT_TWICE,
+    SHAPE_IS_LOWER,
+    SHAPE_VALUE,
+    LOWER_TURNED,
+    SUM_TURNED,
+    LOWER_VALUE,
+    SUM_VALUE,
+    SUM_OVER_LOWER,
+    JOIN_TURNED,
+    JOIN_GROUPED,
+    BEHIND_GREATEST,
+    BACKLOG_BEHIND,
+    DELAY_ENOUGH,
+    DELAY_LEAST,
+    REFUSED_ALIKE,
+    ONE_STEP,
+    ONE_STEP_TURNED,
+    DELAYS_ADDED,
+    RESIDUAL_LEAST,
+    WRITTEN_READ,
+    READ_WRITTEN,
+    ROUTE_BY_CALLS,
+    ROUTE_DECIDED,
+];
+
+impl Run {
+    fn law(&mut self, name: &'static str, good: bool, operands: &[&[u64]]) {
+        self.check(name, good, || format!("{operands:?}"));
+    }
+
+    fn value(&mut self, curve: &[u64], tick: u64) -> Option<u128> {
+        self.answer(&questions::value(curve, tick)).figure().map(u128::from)
+    }
+
+    /// What behind, backlog, delay and residual read of a curve at a tick, also at 0: its value.
+    fn reading(&mut self, curve: &[u64], tick: u64) -> Option<u128> {
+        self.value(curve, tick)
+    }
+}
+
+// ---- curves
+
+/// An answered list is the normal form of its raw buckets, and normalise gives it back.
+fn law_of_answers(run: &mut Run, answer: &[u64], raw: &[Bucket]) {
+    let good = is_normal_form_of(&curve_buckets(answer), raw);
+    run.law(NORMAL_ANSWERS, good, &[answer, &raw_list(raw)]);
+    let again = run.answer(&questions::normalise(&raw_list(&curve_buckets(answer))));
+    run.law(NORMAL_AGAIN, again.is(answer), &[answer]);
+}
+
+fn laws_of_normalise(run: &mut Run, raw: &[Bucket]) {
+    let list = raw_list(raw);
+    let told = run.answer(&questions::normalise(&list));
+    run.law(NORMALISE_ANSWERS, told.answered(), &[&list]);
+    law_of_answers(run, told.list(), raw);
+    for _ in 0..3 {
+        let tick = good_tick(&mut run.rng, &curve_buckets(told.list()));
+        let good = run.value(told.list(), tick) == Some(least(raw, tick.into(), 1));
+        run.law(NORMALISE_VALUE, good, &[&list, &[tick]]);
+    }
+    let mut shuffled = raw.to_vec();
+    run.rng.shuffle(&mut shuffled);
+    let other = run.answer(&questions::normalise(&raw_list(&shuffled)));
+    run.law(NORMALISE_ORDER, other == told, &[&list, &raw_list(&shuffled)]);
+}
+
+fn laws_of_one(run: &mut Run, curve: &[Bucket]) {
+    let f = curve_list(curve);
+    let told = run.answer(&of_two(Lower, &f, &f));
+    run.law(LOWER_ITSELF, told.is(&f), &[&f]);
+    run.law(LENT_TWICE, ask_of_one_list(library::lower, &f) == told, &[&f]);
+    let told = run.answer(&of_two(Sum, &f, &f));
+    let twice: Vec<Bucket> = curve.iter().map(|b| b.plus(*b)).collect();
+    let good = match twice.iter().all(Bucket::in_range) {
+        true => told.is(&curve_list(&twice)),
+        false => told.code == u64::from(LARGE),
+    };
+    run.law(SUM_ITSELF, good, &[&f]);
+    run.law(LENT_TWICE, ask_of_one_list(library::sum, &f) == told, &[&f]);
+    let told = run.answer(&of_two(Sum, &f, &curve_list(&[bucket(0, 0)])));
+    run.law(SUM_NOTHING, told.is(&f), &[&f]);
+
+    let rate = good_link(&mut run.rng, curve);
+    let link = bucket(rate, 0);
+    let shape = run.answer(&questions::shape(&f, rate));
+    let lower = run.answer(&of_two(Lower, &f, &curve_list(&[link])));
+    run.law(SHAPE_IS_LOWER, shape == lower, &[&f, &[rate]]);
+    if shape.answered() {
+        law_of_answers(run, shape.list(), &[curve, &[link]].concat());
+        let tick = good_tick(&mut run.rng, curve);
+        let of_link = link.at(tick.into(), 1);
+        let good = run.value(shape.list(), tick) == run.value(&f, tick).map(|v| v.min(of_link));
+        run.law(SHAPE_VALUE, good, &[&f, &[rate, tick]]);
+    }
+}
+
+fn laws_of_two(run: &mut Run, f: &[u64], g: &[u64]) {
+    let lower = run.answer(&of_two(Lower, f, g));
+    let turned = run.answer(&of_two(Lower, g, f));
+    run.law(LOWER_TURNED, lower == turned, &[f, g]);
+    let sum = run.answer(&of_two(Sum, f, g));
+    let turned = run.answer(&of_two(Sum, g, f));
+    run.law(SUM_TURNED, sum == turned, &[f, g]);
+    if lower.answered() {
+        law_of_answers(run, lower.list(), &[curve_buckets(f), curve_buckets(g)].concat());
+    }
+    if sum.answered() {
+        law_of_answers(run, sum.list(), &all_pairs(&curve_buckets(f), &curve_buckets(g)));
+    }
+    if !lower.answered() && !sum.answered() {
+        return;
+    }
+    for _ in 0..2 {
+        let tick = good_tick(&mut run.rng, &curve_buckets(f));
+        let both = run.value(f, tick).zip(run.value(g, tick));
+        if lower.answered() {
+            let good = both.is_some() && run.value(lower.list(), tick) == both.map(|(a, b)| a.min(b));
+            run.law(LOWER_VALUE, good, &[f, g, &[tick]]);
+        }
+        if sum.answered() {
+            let good = both.is_some() && run.value(sum.list(), tick) == both.map(|(a, b)| a + b);
+            run.law(SUM_VALUE, good, &[f, g, &[tick]]);
+        }
+    }
+}
+
+/// Adding to the lower of two is the lower of the two sums.
+fn laws_of_three(run: &mut Run, f: &[u64], g: &[u64], h: &[u64]) {
+    let [lower, to_g, to_h] =
+        [of_two(Lower, g, h), of_two(Sum, f, g), of_two(Sum, f, h)].map(|question| run.answer(&question));
+    if lower.answered() && to_g.answered() && to_h.answered() {
+        let first = run.answer(&of_two(Sum, f, lower.list()));
+        let second = run.answer(&of_two(Lower, to_g.list(), to_h.list()));
+        run.law(SUM_OVER_LOWER, first == second, &[f, g, h]);
+    }
+}
+
+// ---- servers
+
+fn numbers(servers: &[Server]) -> Vec<u64> {
+    servers.iter().flat_map(|server| [server.rate, server.latency]).collect()
+}
+
+fn laws_of_join(run: &mut Run) {
+    let [first, second] = two_servers(&mut run.rng);
+    let third = any_server(&mut run.rng);
+    let third = server(third.rate, third.latency % 16);
+    let told = run.answer(&questions::join(first, second));
+    let turned = run.answer(&questions::join(second, first));
+    run.law(JOIN_TURNED, told == turned, &[&numbers(&[first, second])]);
+    if let (Some(left), Some(right)) = (told.server(), run.answer(&questions::join(second, third)).server()) {
+        let (left, right) = (run.answer(&questions::join(left, third)), run.answer(&questions::join(first, right)));
+        run.law(JOIN_GROUPED, left == right, &[&numbers(&[first, second, third])]);
+    }
+}
+
+/// The greatest over u of value(t+u), as the library tells it, minus what is served by u + early. All
+/// ticks are tried where the curve and the latency end soon. None where a tick would be out of range.
+fn greatest_gap(run: &mut Run, curve: &[Bucket], server: Server, t: u64, early: u64) -> Option<i128> {
+    let list = curve_list(curve);
+    let last = curve.windows(2).last().map_or(0, |b| (b[1].burst - b[0].burst) / (b[0].rate - b[1].rate));
+    let end = last + server.latency + 2;
+    if t + 2 * end >= TICK_END {
+        return None;
+    }
+    let mut gap = |u: u64| {
+        let value = run.reading(&list, t + u).expect("a value");
+        value as i128 - server.served(u + early) as i128
+    };
+    if end <= 40 {
+        (0..=end).map(gap).max()
+    } else {
+        Some(greatest(&mut gap).1)
+    }
+}
+
+/// Laws of one curve at one server.
+fn laws_of_port(run: &mut Run, curve: &[Bucket], server: Server) {
+    let f = curve_list(curve);
+    let told = [&f[..], &numbers(&[server])];
+    let [behind, backlog, delay] = [Behind, Backlog, Delay].map(|asked| run.answer(&at_port(asked, &f, server)));
+    if behind.answered() {
+        law_of_answers(run, behind.list(), &behind_raw(curve, server));
+        let good = backlog.answered() && run.reading(behind.list(), 0) == backlog.figure().map(u128::from);
+        run.law(BACKLOG_BEHIND, good, &told);
+        for t in [0, 1, run.rng.below(20), good_tick(&mut run.rng, curve)] {
+            if let Some(most) = greatest_gap(run, curve, server, t, 0) {
+                let good = run.reading(behind.list(), t).map(|value| value as i128) == Some(most);
+                run.law(BEHIND_GREATEST, good, &[&f, &numbers(&[server]), &[t]]);
+            }
+        }
+    }
+    let Some(d) = delay.figure() else { return };
+    if let Some(late) = greatest_gap(run, curve, server, 0, d) {
+        run.law(DELAY_ENOUGH, late <= 0, &told);
+        let too_short = d == 0 || greatest_gap(run, curve, server, 0, d - 1).is_some_and(|late| late > 0);
+        run.law(DELAY_LEAST, too_short, &told);
+    }
+}
+
+/// A list and a server that may break rules.
+fn law_of_refusals(run: &mut Run, f: &[u64], server: Server) {
+    let [behind, backlog, delay] = [Behind, Backlog, Delay].map(|asked| run.answer(&at_port(asked, f, server)));
+    let large = behind.code == u64::from(LARGE) && backlog.code == 0;
+    let good = backlog.code == delay.code && (behind.code == backlog.code || large);
+    run.law(REFUSED_ALIKE, good, &[f, &numbers(&[server])]);
+}
+
+/// Demand 3: take a curve and two servers where both hops and the joining of the servers are answered.
+fn laws_of_two_hops(run: &mut Run, curve: &[Bucket], first: Server, second: Server) {
+    let f = curve_list(curve);
+    let told = [&f[..], &numbers(&[first, second])];
+    let hops = |run: &mut Run, first, second| {
+        let middle = run.answer(&at_port(Behind, &f, first));
+        let after = run.answer(&at_port(Behind, middle.list(), second));
+        (middle.answered() && after.answered()).then_some((middle, after))
+    };
+    let joined = run.answer(&questions::join(first, second)).server();
+    let (Some(joined), Some((middle, after))) = (joined, hops(run, first, second)) else { return };
+    let one = run.answer(&at_port(Behind, &f, joined));
+    run.law(ONE_STEP, one.answered() && one.list() == after.list(), &told);
+    if let Some((_, turned)) = hops(run, second, first) {
+        run.law(ONE_STEP_TURNED, turned.list() == after.list(), &told);
+    }
+    let mut delay = |curve: &[u64], server| run.answer(&at_port(Delay, curve, server)).figure();
+    let (all, at_first, at_second) = (delay(&f, joined), delay(&f, first), delay(middle.list(), second));
+    let good = all.zip(at_first).zip(at_second).is_some_and(|((all, first), second)| all <= first + second);
+    run.law(DELAYS_ADDED, good, &told);
+}
+
+/// Past its latency L the server that is left never serves more by tick t than R(t-T) minus the cross
+/// curve's value at t-L.
+fn law_of_residual(run: &mut Run, cross: &[Bucket], server: Server) {
+    let list = curve_list(cross);
+    let Some(left) = run.answer(&at_port(Residual, &list, server)).server() else { return };
+    for later in [0, 1, good_tick(&mut run.rng, cross)] {
+        let tick = left.latency + later;
+        let crossed = run.reading(&list, later).expect("a value");
+        let good = left.served(tick) + crossed <= server.served(tick);
+        run.law(RESIDUAL_LEAST, good, &[&list, &numbers(&[server]), &[tick]]);
+    }
+}
+
+fn laws_of_servers(run: &mut Run, curve: &[Bucket]) {
+    let server = bounded_server_for(&mut run.rng, curve);
+    laws_of_port(run, curve, server);
+    let [first, second] = [0; 2].map(|_| bounded_server_for(&mut run.rng, curve));
+    laws_of_two_hops(run, curve, first, second);
+    let beside = server_for(&mut run.rng, curve);
+    law_of_residual(run, curve, beside);
+    let beyond = maybe_beyond(&mut run.rng, beside, 6);
+    let list = as_curve(&mut run.rng, curve, 4);
+    law_of_refusals(run, &list, beyond);
+}
+
+// ---- profiles
+
+/// Given room, a profile written and read again gives the same curve or server.
+fn law_of_writing(run: &mut Run, curve: &[Bucket]) {
+    let list = curve_list(curve);
+    let file = run.answer(&questions::write_curve(&list)).bytes().to_vec();
+    let read = run.answer(&questions::read(&file));
+    let same = read.answered() && read.figures == [CURVE_KIND, curve.len() as u64, 0, 0] && read.list_read() == list;
+    run.law(WRITTEN_READ, same, &[&list]);
+    let server = any_server(&mut run.rng);
+    let file = run.answer(&questions::write_server(server)).bytes().to_vec();
+    let read = run.answer(&questions::read(&file));
+    let same = read.answered() && read.figures == [SERVER_KIND, 0, server.rate, server.latency];
+    run.law(WRITTEN_READ, same, &[&numbers(&[server])]);
+}
+
+/// A profile accepted and written again gives the same bytes.
+fn law_of_reading(run: &mut Run, file: &[u8]) {
+    let read = run.answer(&questions::read(file));
+    if !read.answered() {
+        return;
+    }
+    let [kind, _, rate, latency] = read.figures;
+    let again = match kind {
+        CURVE_KIND => run.answer(&questions::write_curve(read.list_read())),
+        _ => run.answer(&questions::write_server(server(rate, latency))),
+    };
+    run.check(READ_WRITTEN, again.answered() && again.bytes() == file, || format!("{file:02x?}"));
+}
+
+// ---- routes
+
+/// The text that the single calls make, and the first code that one of them refuses with.
+fn text_by_calls(run: &mut Run, curve: &[Bucket], servers: &[Server]) -> String {
+    let first = curve_list(curve);
+    let (mut list, mut joined, mut text) = (first.clone(), None, String::new());
+    for (place, server) in servers.iter().enumerate() {
+        let mut calls: Vec<Told> =
+            [Backlog, Delay, Behind].iter().map(|asked| run.answer(&at_port(*asked, &list, *server))).collect();
+        if let Some(before) = joined {
+            calls.push(run.answer(&questions::join(before, *server)));
+        }
+        if let Some(code) = calls.iter().map(|told| told.code).filter(|&code| code != 0).min() {
+            return format!("refused {code} at {}\n", place + 2);
+        }
+        text += &format!("hop {} {} {}\n", place + 1, calls[0].figures[0], calls[1].figures[0]);
+        joined = Some(calls.get(3).map_or(*server, |told| told.server().expect("a server")));
+        list = calls[2].list().to_vec();
+    }
+    let joined = joined.expect("a server");
+    let [backlog, delay] = [Backlog, Delay].map(|asked| run.answer(&at_port(asked, &first, joined)).figures[0]);
+    text + &format!("route {backlog} {delay}\n")
+}
+
+fn law_of_routes(run: &mut Run, curve: &[Bucket]) {
+    let count = run.rng.pick(&[1, 2, 3, 5, 8, MOST_SERVERS]);
+    let servers = servers_for(&mut run.rng, curve, count);
+    let text = text_by_calls(run, curve, &servers);
+    let mut input = curve_file(curve);
+    servers.iter().for_each(|server| input.extend(server_file(*server)));
+    let told = run.answer(&questions::route(&input));
+    run.check(ROUTE_BY_CALLS, told.answered() && told.bytes() == text.as_bytes(), || format!("{curve:?} {servers:?}"));
+}
+
+/// A long curve, 32 servers and more: whatever follows the first bytes changes nothing.
+fn law_of_deciding_bytes(run: &mut Run, curve: &[Bucket]) {
+    let more = 1 + run.rng.place(4);
+    let servers = servers_for(&mut run.rng, curve, MOST_SERVERS + more);
+    let mut input = curve_file(curve);
+    servers.iter().for_each(|server| input.extend(server_file(*server)));
+    let (junk, longer) = (bytes(&mut run.rng, 20), 600 + run.rng.place(100));
+    input.extend(junk);
+    input.resize(input.len().max(longer), 0x12);
+    let whole = run.answer(&questions::route(&input));
+    let start = run.answer(&questions::route(&input[..input.len().min(DECIDING_BYTES)]));
+    run.check(ROUTE_DECIDED, whole.answered() && whole == start, || format!("{input:02x?}"));
+}
+
+// ---- all
+
+fn laws_of_profiles(run: &mut Run, curve: &[Bucket]) {
+    law_of_writing(run, curve);
+    let file = some_file(&mut run.rng, curve);
+    law_of_reading(run, &file);
+    let file = random_under_header(&mut run.rng);
+    law_of_reading(run, &file);
+}
+
+pub fn laws(run: &mut Run) {
+    for case in 0..SHORT {
+        let raw = small_list(&mut run.rng);
+        laws_of_normalise(run, &raw);
+        let curve = small_curve(&mut run.rng);
+        laws_of_one(run, &curve);
+        let [f, g] = small_pair(&mut run.rng).map(|curve| as_curve(&mut run.rng, &curve, 12));
+        laws_of_two(run, &f, &g);
+        if case % 4 == 0 {
+            laws_of_three(run, &curve_list(&curve), &f, &g);
+        }
+        laws_of_join(run);
+        laws_of_servers(run, &curve);
+        laws_of_profiles(run, &curve);
+        law_of_routes(run, &curve);
+    }
+    for _ in 0..LONG {
+        let raw = large_list(&mut run.rng);
+        laws_of_normalise(run, &raw);
+        let curve = large_curve(&mut run.rng);
+        laws_of_one(run, &curve);
+        let [f, g] = large_pair(&mut run.rng).map(|curve| curve_list(&curve));
+        laws_of_two(run, &f, &g);
+        for _ in 0..LONG_EACH {
+            laws_of_servers(run, &curve);
+        }
+        laws_of_profiles(run, &curve);
+        law_of_routes(run, &curve);
+        law_of_deciding_bytes(run, &curve);
+    }
+}

@@ -1,0 +1,157 @@
+//! The functions of include/duchrelin.h, each as a safe one.
+
+use super::rules::Server;
+use std::mem::{align_of, offset_of, size_of};
+
+#[repr(C)]
+pub struct Answer {
+    pub code: u64,
+    pub count: u64,
+}
+
+#[repr(C)]
+pub struct Figure {
+    pub code: u64,
+    pub figure: u64,
+}
+
+#[repr(C)]
+pub struct ServerAnswer {
+    pub code: u64,
+    pub rate: u64,
+    pub latency: u64,
+}
+
+#[repr(C)]
+pub struct Profile {
+    pub code: u64,
+    pub kind: u64,
+    pub count: u64,
+    pub rate: u64,
+    pub latency: u64,
+}
+
+#[repr(C)]
+pub struct Written {
+    pub code: u64,
+    pub bytes: u64,
+}
+
+// What the declarations rely on. Nothing else holds them to the header.
+const _: () = {
+    assert!(size_of::<usize>() == 8 && size_of::<*const u64>() == 8 && align_of::<u64>() == 8);
+    assert!(size_of::<Answer>() == 16 && offset_of!(Answer, count) == 8);
+    assert!(size_of::<Figure>() == 16 && offset_of!(Figure, figure) == 8);
+    assert!(size_of::<ServerAnswer>() == 24 && offset_of!(ServerAnswer, rate) == 8);
+    assert!(offset_of!(ServerAnswer, latency) == 16);
+    assert!(size_of::<Profile>() == 40 && offset_of!(Profile, kind) == 8 && offset_of!(Profile, count) == 16);
+    assert!(offset_of!(Profile, rate) == 24 && offset_of!(Profile, latency) == 32);
+    assert!(size_of::<Written>() == 16 && offset_of!(Written, bytes) == 8);
+};
+
+extern "C" {
+    fn duchrelin_normalise(raw: *const u64, raw_numbers: usize, out: *mut u64, out_numbers: usize) -> Answer;
+    fn duchrelin_value(curve: *const u64, curve_numbers: usize, tick: u64) -> Figure;
+    fn duchrelin_lower(
+        f: *const u64,
+        f_numbers: usize,
+        g: *const u64,
+        g_numbers: usize,
+        out: *mut u64,
+        out_numbers: usize,
+    ) -> Answer;
+    fn duchrelin_sum(
+        f: *const u64,
+        f_numbers: usize,
+        g: *const u64,
+        g_numbers: usize,
+        out: *mut u64,
+        out_numbers: usize,
+    ) -> Answer;
+    fn duchrelin_shape(
+        curve: *const u64,
+        curve_numbers: usize,
+        link_rate: u64,
+        out: *mut u64,
+        out_numbers: usize,
+    ) -> Answer;
+    fn duchrelin_join(rate: u64, latency: u64, next_rate: u64, next_latency: u64) -> ServerAnswer;
+    fn duchrelin_behind(
+        curve: *const u64,
+        curve_numbers: usize,
+        rate: u64,
+        latency: u64,
+        out: *mut u64,
+        out_numbers: usize,
+    ) -> Answer;
+    fn duchrelin_backlog(curve: *const u64, curve_numbers: usize, rate: u64, latency: u64) -> Figure;
+    fn duchrelin_delay(curve: *const u64, curve_numbers: usize, rate: u64, latency: u64) -> Figure;
+    fn duchrelin_residual(rate: u64, latency: u64, cross: *const u64, cross_numbers: usize) -> ServerAnswer;
+    fn duchrelin_read(file: *const u8, file_bytes: usize, out: *mut u64, out_numbers: usize) -> Profile;
+    fn duchrelin_write_curve(curve: *const u64, curve_numbers: usize, buffer: *mut u8, buffer_bytes: usize) -> Written;
+    fn duchrelin_write_server(rate: u64, latency: u64, buffer: *mut u8, buffer_bytes: usize) -> Written;
+    fn duchrelin_route(input: *const u8, input_bytes: usize, text: *mut u8, text_bytes: usize) -> Written;
+}
+
+// SAFETY, of all: a slice is aligned and as long as its count says, and an output slice, being lent
+// for writing, overlaps no other.
+
+pub fn normalise(raw: &[u64], out: &mut [u64]) -> Answer {
+    unsafe { duchrelin_normalise(raw.as_ptr(), raw.len(), out.as_mut_ptr(), out.len()) }
+}
+
+pub fn value(curve: &[u64], tick: u64) -> Figure {
+    unsafe { duchrelin_value(curve.as_ptr(), curve.len(), tick) }
+}
+
+pub fn lower(f: &[u64], g: &[u64], out: &mut [u64]) -> Answer {
+    let (to, room) = (out.as_mut_ptr(), out.len());
+    unsafe { duchrelin_lower(f.as_ptr(), f.len(), g.as_ptr(), g.len(), to, room) }
+}
+
+pub fn sum(f: &[u64], g: &[u64], out: &mut [u64]) -> Answer {
+    let (to, room) = (out.as_mut_ptr(), out.len());
+    unsafe { duchrelin_sum(f.as_ptr(), f.len(), g.as_ptr(), g.len(), to, room) }
+}
+
+pub fn shape(curve: &[u64], link_rate: u64, out: &mut [u64]) -> Answer {
+    let (to, room) = (out.as_mut_ptr(), out.len());
+    unsafe { duchrelin_shape(curve.as_ptr(), curve.len(), link_rate, to, room) }
+}
+
+pub fn join(server: Server, next: Server) -> ServerAnswer {
+    unsafe { duchrelin_join(server.rate, server.latency, next.rate, next.latency) }
+}
+
+pub fn behind(curve: &[u64], server: Server, out: &mut [u64]) -> Answer {
+    let (to, room) = (out.as_mut_ptr(), out.len());
+    unsafe { duchrelin_behind(curve.as_ptr(), curve.len(), server.rate, server.latency, to, room) }
+}
+
+pub fn backlog(curve: &[u64], server: Server) -> Figure {
+    unsafe { duchrelin_backlog(curve.as_ptr(), curve.len(), server.rate, server.latency) }
+}
+
+pub fn delay(curve: &[u64], server: Server) -> Figure {
+    unsafe { duchrelin_delay(curve.as_ptr(), curve.len(), server.rate, server.latency) }
+}
+
+pub fn residual(server: Server, cross: &[u64]) -> ServerAnswer {
+    unsafe { duchrelin_residual(server.rate, server.latency, cross.as_ptr(), cross.len()) }
+}
+
+pub fn read(file: &[u8], out: &mut [u64]) -> Profile {
+    unsafe { duchrelin_read(file.as_ptr(), file.len(), out.as_mut_ptr(), out.len()) }
+}
+
+pub fn write_curve(curve: &[u64], buffer: &mut [u8]) -> Written {
+    unsafe { duchrelin_write_curve(curve.as_ptr(), curve.len(), buffer.as_mut_ptr(), buffer.len()) }
+}
+
+pub fn write_server(server: Server, buffer: &mut [u8]) -> Written {
+    unsafe { duchrelin_write_server(server.rate, server.latency, buffer.as_mut_ptr(), buffer.len()) }
+}
+
+pub fn route(input: &[u8], text: &mut [u8]) -> Written {
+    unsafe { duchrelin_route(input.as_ptr(), input.len(), text.as_mut_ptr(), text.len()) }
+}

@@ -1,0 +1,325 @@
+//! Questions to the library, one for each call, and what the references say that it must give.
+
+use super::curves::{added, curve_lines, hull, large_lines, least, raw_lines};
+use super::profiles::{curve_file, parsed, server_file, Profile, CURVE_KIND, SERVER_KIND};
+use super::routes;
+use super::rules::*;
+use super::servers::{self, last_rate, server_lines};
+use Operation::*;
+
+#[derive(Clone, Copy, PartialEq, Eq, PartialOrd, Ord, Debug)]
+pub enum Operation {
+    Normalise,
+    Value,
+    Lower,
+    Sum,
+    Shape,
+    Join,
+    Behind,
+    Backlog,
+    Delay,
+    Residual,
+    Read,
+    WriteCurve,
+    WriteServer,
+    Route,
+}
+
+pub const OPERATIONS: [Operation; 14] =
+    [Normalise, Value, Lower, Sum, Shape, Join, Behind, Backlog, Delay, Residual, Read, WriteCurve, WriteServer, Route];
+
+/// What is lent for the answer.
+#[derive(Clone, Copy, PartialEq, Eq)]
+pub enum Out {
+    Nothing,
+    Numbers,
+    Bytes,
+}
+
+impl Operation {
+    /// The codes that it can give.
+    pub fn codes(self) -> &'static [u32] {
+        match self {
+            Normalise => &[0, LIST, COUNT, RANGE, ROOM],
+            Value => &[0, LIST, COUNT, RANGE, FORM],
+            Lower | Sum | Shape => &[0, LIST, COUNT, RANGE, FORM, LARGE, ROOM],
+            Join => &[0, RANGE, LARGE],
+            Behind => &[0, LIST, COUNT, RANGE, FORM, UNBOUNDED, LARGE, ROOM],
+            Backlog | Delay => &[0, LIST, COUNT, RANGE, FORM, UNBOUNDED],
+            Residual => &[0, LIST, COUNT, RANGE, FORM, UNBOUNDED, LARGE],
+            Read => &[0, HEADER, LENGTH, PAD, RANGE, FORM, ROOM],
+            WriteCurve => &[0, LIST, COUNT, RANGE, FORM, ROOM],
+            WriteServer => &[0, RANGE, ROOM],
+            Route => &[0, ROOM],
+        }
+    }
+
+    pub fn out(self) -> Out {
+        match self {
+            Normalise | Lower | Sum | Shape | Behind | Read => Out::Numbers,
+            WriteCurve | WriteServer | Route => Out::Bytes,
+            Value | Join | Backlog | Delay | Residual => Out::Nothing,
+        }
+    }
+}
+
+/// A question: the call, and of the rest what that call takes.
+#[derive(Debug)]
+pub struct Question {
+    pub operation: Operation,
+    /// The list, and the second one of lower and sum.
+    pub f: Vec<u64>,
+    pub g: Vec<u64>,
+    /// The file, or the input of a route.
+    pub file: Vec<u8>,
+    /// The server, and the second one of join.
+    pub server: Server,
+    pub next: Server,
+    /// The tick of value, the link's rate of shape.
+    pub number: u64,
+}
+
+fn empty(operation: Operation) -> Question {
+    let (f, g, file) = (Vec::new(), Vec::new(), Vec::new());
+    Question { operation, f, g, file, server: Server::default(), next: Server::default(), number: 0 }
+}
+
+pub fn normalise(raw: &[u64]) -> Question {
+    Question { f: raw.to_vec(), ..empty(Normalise) }
+}
+
+pub fn value(curve: &[u64], tick: u64) -> Question {
+    Question { f: curve.to_vec(), number: tick, ..empty(Value) }
+}
+
+/// lower or sum.
+pub fn of_two(operation: Operation, f: &[u64], g: &[u64]) -> Question {
+    Question { f: f.to_vec(), g: g.to_vec(), ..empty(operation) }
+}
+
+pub fn shape(curve: &[u64], link_rate: u64) -> Question {
+    Question { f: curve.to_vec(), number: link_rate, ..empty(Shape) }
+}
+
+pub fn join(server: Server, next: Server) -> Question {
+    Question { server, next, ..empty(Join) }
+}
+
+/// behind, backlog, delay or residual.
+pub fn at_port(operation: Operation, curve: &[u64], server: Server) -> Question {
+    Question { f: curve.to_vec(), server, ..empty(operation) }
+}
+
+pub fn read(file: &[u8]) -> Question {
+    Question { file: file.to_vec(), ..empty(Read) }
+}
+
+pub fn write_curve(curve: &[u64]) -> Question {
+    Question { f: curve.to_vec(), ..empty(WriteCurve) }
+}
+
+pub fn write_server(server: Server) -> Question {
+    Question { server, ..empty(WriteServer) }
+}
+
+pub fn route(input: &[u8]) -> Question {
+    Question { file: input.to_vec(), ..empty(Route) }
+}
+
+/// What an output holds.
+#[derive(Clone, PartialEq, Eq, Debug)]
+pub enum Held {
+    Nothing,
+    Numbers(Vec<u64>),
+    Bytes(Vec<u8>),
+}
+
+impl Held {
+    pub fn len(&self) -> usize {
+        match self {
+            Held::Nothing => 0,
+            Held::Numbers(list) => list.len(),
+            Held::Bytes(bytes) => bytes.len(),
+        }
+    }
+
+    /// With an answer at its start.
+    fn over(&mut self, answer: &Held) {
+        match (self, answer) {
+            (Held::Numbers(list), Held::Numbers(answer)) => list[..answer.len()].copy_from_slice(answer),
+            (Held::Bytes(bytes), Held::Bytes(answer)) => bytes[..answer.len()].copy_from_slice(answer),
+            _ => {}
+        }
+    }
+}
+
+/// The figures behind a code, in the order of the header's struct; 0 where it has fewer.
+pub type Figures = [u64; 4];
+
+fn one(figure: u64) -> Figures {
+    [figure, 0, 0, 0]
+}
+
+/// What the library told: the code, the figures, the output, and whether all else stayed.
+#[derive(PartialEq, Eq, Debug)]
+pub struct Told {
+    pub code: u64,
+    pub figures: Figures,
+    pub out: Held,
+    pub stayed: bool,
+}
+
+impl Told {
+    pub fn answered(&self) -> bool {
+        self.code == 0 && self.stayed
+    }
+
+    /// The numbers of so many buckets at the start of the output.
+    fn list_of(&self, count: u64) -> &[u64] {
+        let Held::Numbers(out) = &self.out else { return &[] };
+        let count = usize::try_from(count).unwrap_or(usize::MAX);
+        out.get(..count.saturating_mul(CURVE_NUMBERS)).unwrap_or(&[])
+    }
+
+    /// The numbers of an answered curve.
+    pub fn list(&self) -> &[u64] {
+        self.list_of(self.figures[0])
+    }
+
+    /// The numbers of a curve that was read.
+    pub fn list_read(&self) -> &[u64] {
+        self.list_of(self.figures[1])
+    }
+
+    pub fn is(&self, curve: &[u64]) -> bool {
+        self.answered() && self.list() == curve
+    }
+
+    /// The bytes of an answered file or text.
+    pub fn bytes(&self) -> &[u8] {
+        let Held::Bytes(out) = &self.out else { return &[] };
+        usize::try_from(self.figures[0]).ok().and_then(|count| out.get(..count)).unwrap_or(&[])
+    }
+
+    /// The figure of an answered question that has one.
+    pub fn figure(&self) -> Option<u64> {
+        self.answered().then_some(self.figures[0])
+    }
+
+    pub fn server(&self) -> Option<Server> {
+        self.answered().then_some(server(self.figures[0], self.figures[1]))
+    }
+}
+
+/// What a question must give, but for the room: the lines of its first and second operand, those of
+/// the answer, and if the operands have none the exact answer, be it too large or not.
+pub struct Exact {
+    pub operands: [u32; 2],
+    pub more: u32,
+    pub figures: Figures,
+    pub output: Held,
+    /// The buckets of a curve answer.
+    pub buckets: Vec<Bucket>,
+    /// Of a route that is refused, the code and which profile it is.
+    pub refused: Option<(u32, usize)>,
+}
+
+impl Exact {
+    pub fn lines(&self, room: usize) -> u32 {
+        self.operands[0] | self.operands[1] | self.more | line(ROOM, room < self.output.len())
+    }
+
+    /// What the library must tell, if the output holds this before.
+    pub fn told(&self, mut out: Held) -> Told {
+        let code = winner(self.lines(out.len()));
+        let mut figures = [0; 4];
+        if code == 0 {
+            out.over(&self.output);
+            figures = self.figures;
+        }
+        Told { code: code.into(), figures, out, stayed: true }
+    }
+}
+
+fn nothing(more: u32) -> Exact {
+    Exact { operands: [0; 2], more, figures: [0; 4], output: Held::Nothing, buckets: Vec::new(), refused: None }
+}
+
+fn of_figure(figure: u64) -> Exact {
+    Exact { figures: one(figure), ..nothing(0) }
+}
+
+fn of_curve(buckets: Vec<Bucket>) -> Exact {
+    let more = large_lines(&buckets);
+    let output = Held::Numbers(curve_list(&buckets));
+    Exact { figures: one(buckets.len() as u64), output, buckets, ..nothing(more) }
+}
+
+fn of_server(answer: Server) -> Exact {
+    Exact { figures: [answer.rate, answer.latency, 0, 0], ..nothing(line(LARGE, !answer.in_range())) }
+}
+
+fn of_bytes(bytes: Vec<u8>) -> Exact {
+    Exact { figures: one(bytes.len() as u64), output: Held::Bytes(bytes), ..nothing(0) }
+}
+
+fn of_profile(profile: Profile) -> Exact {
+    match profile {
+        Profile::Curve(curve) => {
+            let output = Held::Numbers(curve_list(&curve));
+            Exact { figures: [CURVE_KIND, curve.len() as u64, 0, 0], output, buckets: curve, ..nothing(0) }
+        }
+        Profile::Server(server) => Exact { figures: [SERVER_KIND, 0, server.rate, server.latency], ..nothing(0) },
+    }
+}
+
+/// The lines of the operands, first and second as they are passed.
+fn operand_lines(question: &Question) -> [u32; 2] {
+    let Question { operation, f, g, file, server, next, number } = question;
+    match operation {
+        Normalise => [raw_lines(f), 0],
+        Value => [curve_lines(f), line(RANGE, *number >= TICK_END)],
+        Lower | Sum => [curve_lines(f), curve_lines(g)],
+        Shape => [curve_lines(f), line(RANGE, !(1..RATE_END).contains(number))],
+        Join => [server_lines(*server), server_lines(*next)],
+        Behind | Backlog | Delay => [curve_lines(f), server_lines(*server)],
+        Residual => [server_lines(*server), curve_lines(f)],
+        Read => [parsed(file).0, 0],
+        WriteCurve => [curve_lines(f), 0],
+        WriteServer => [server_lines(*server), 0],
+        Route => [0, 0],
+    }
+}
+
+/// The answer, the operands being what they should be.
+fn answer(question: &Question) -> Exact {
+    let Question { operation, f: list, g, file, server, next, number } = question;
+    let (f, server) = (curve_buckets(list), *server);
+    match operation {
+        Normalise => of_curve(hull(&raw_buckets(list))),
+        Value => of_figure(u64::try_from(least(&f, (*number).into(), 1)).expect("64 bits")),
+        Lower => of_curve(hull(&[f, curve_buckets(g)].concat())),
+        Sum => of_curve(added(&f, &curve_buckets(g))),
+        Shape => of_curve(hull(&[f, vec![bucket(*number, 0)]].concat())),
+        Join => of_server(servers::join(server, *next)),
+        Behind | Backlog | Delay if last_rate(&f) > server.rate => nothing(line(UNBOUNDED, true)),
+        Behind => of_curve(servers::behind(&f, server)),
+        Backlog => of_figure(servers::backlog(&f, server)),
+        Delay => of_figure(servers::delay(&f, server)),
+        Residual if last_rate(&f) >= server.rate => nothing(line(UNBOUNDED, true)),
+        Residual => of_server(servers::residual(server, &f)),
+        Read => of_profile(parsed(file).1.expect("a profile")),
+        WriteCurve => of_bytes(curve_file(&f)),
+        WriteServer => of_bytes(server_file(server)),
+        Route => {
+            let (text, refused) = routes::text(file);
+            Exact { refused, ..of_bytes(text) }
+        }
+    }
+}
+
+pub fn exact(question: &Question) -> Exact {
+    let operands = operand_lines(question);
+    let exact = if operands == [0, 0] { answer(question) } else { nothing(0) };
+    Exact { operands, ..exact }
+}
