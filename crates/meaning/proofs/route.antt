@@ -10,3 +10,5 @@ pub mod Standing
 pub mod Written
 pub mod Steps
 pub mod Codes
+pub mod Refusals
+pub mod Known
