@@ -12,3 +12,4 @@ pub mod Steps
 pub mod Codes
 pub mod Refusals
 pub mod Known
+pub mod Slips

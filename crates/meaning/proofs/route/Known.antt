@@ -1,21 +1,20 @@
 -- Known inputs and their only texts: P12, a route whose delay is not its last hop's, 32 servers and more, and an input for each
 -- refusal.
 -- Assumes nothing.
-use mathlib.Core.Path.{_≡_, refl, sym, _∙_, ap, subst}
-use mathlib.Core.Logic.{inl, inr, _≢_}
-use mathlib.Core.Option.{Option, none, some}
+use mathlib.Core.Path.{refl, sym, subst}
+use mathlib.Core.Logic.{inr, _≢_}
+use mathlib.Core.Option.{Option, some}
 use mathlib.Core.List.{List, [], _∷_, _++_, append-nil, List·Memᴰ·head}
-use Prim.Native.Nat.{ℕ, zero, suc, _+_, _^_, _≤_, _<_}
+use Prim.Native.Nat.{ℕ, zero, suc, _+_, _≤_, _<_}
 use native.Mathlib.Omega.{arith}
 use lib.Dec.{lit≤}
-use lib.ListN.{length, take, drop, length-append, length-drop, take-append-drop}
-use lib.Seq.{length-take-le}
+use lib.ListN.{length, take, drop, length-append}
 use Rattle.meaning.specs.Curve.{Bucket, buckets, reads, valueAt}
 use Rattle.meaning.specs.Server.{Server, join, last}
-use Rattle.meaning.specs.Refusal.{RANGE, FORM, number, Clear}
+use Rattle.meaning.specs.Refusal.{Clear}
 use Rattle.meaning.specs.ServerQuestions.{ServerInRange}
-use Rattle.meaning.specs.Profile.{edition, curveKind, serverKind, curve, server, written, kindIn, fileLines}
-use Rattle.meaning.specs.Computed.{isNormal, normal, behind, backlog, delay}
+use Rattle.meaning.specs.Profile.{edition, curveKind, curve, server, written, kindIn}
+use Rattle.meaning.specs.Computed.{normal, behind, backlog, delay}
 use Rattle.meaning.specs.Route.{joinLines, bytes, digits, numbers, hopText, routeText, refusedText, hopTexts, Figures}
 use Rattle.meaning.specs.Figures.{C, port}
 use Rattle.meaning.proofs.Figures.{c-sound, table}
@@ -219,3 +218,36 @@ twice-outcome =
     (written-hop {s = port 1 3} (written-start f _) (lit≤ tt) (passes f f (omega arith) (lit≤ tt) (λ r h. h) x)) (lit≤ tt)
     (passes f f (omega arith) (lit≤ tt) (join-clear (omega arith) (omega arith) (omega arith)) x))
     _ (record { backlog-is = route .1; delay-is = route .2 }))
+
+-- ---- One line only, and the smallest number.
+
+-- The first hop of P12 is answered, and then a server has rate 0: only the refusal is printed, whatever stands behind it.
+pub second-refused :
+    (rest : List ℕ)
+    → OnlyText (written edition (curve C) ++ (written edition (server (port 6 4)) ++ (idle-file ++ rest))) (bytes "refused 6 at 3\n")
+unfolding refusedText numbers digits bytes buckets normal behind backlog delay reads valueAt last
+second-refused rest =
+    let kind : kindIn idle-file ≢ curveKind = λ e. omega (arith, kind-byte 0x12 (drop 1 idle-file)) in
+    let g = one-bucket 3 32 (omega arith) in
+    refused-server-file idle-file rest
+    (written-hop {s = port 6 4} (written-start c-sound _) (lit≤ tt)
+    (passes c-sound g (omega arith) (lit≤ tt) (λ r h. h) (worked (port 6 4) c-sound (lit≤ tt) (lit≤ tt))))
+    (lit≤ tt) g kind (sym (server-taken idle-file kind)) {code = 6}
+    (refused-lines rate-0) (λ e. omega arith)
+
+-- The curve {(2,0)} behind (2, 2^20-1), then (1,1), whose rate is below the last and whose joined latency is 2^20: the smaller
+-- number is named.
+pub slow-and-late :
+    (rest : List ℕ)
+    → OnlyText
+    (written edition (curve (buckets (2 ∷ 0 ∷ [])))
+    ++ (written edition (server (port 2 1048575)) ++ (written edition (server (port 1 1)) ++ rest)))
+    (bytes "refused 8 at 3\n")
+unfolding refusedText numbers digits bytes buckets normal behind backlog delay reads valueAt last
+slow-and-late rest =
+    let f = one-bucket 2 0 (omega arith) in
+    let g = one-bucket 2 2097150 (omega arith) in
+    last-rate-above (port 1 1) rest
+    (written-hop {s = port 2 1048575} (written-start f _) (lit≤ tt)
+    (passes f g (omega arith) (lit≤ tt) (λ r h. h) (worked (port 2 1048575) f (lit≤ tt) (lit≤ tt))))
+    (lit≤ tt) g (omega arith) (omega arith) (lit≤ tt)

@@ -1,33 +1,30 @@
 -- One line only, `refused C at K`: for each refusal of the route which inputs it is the only text of. Whatever stands behind the
 -- profile that is refused, the line is the same: the earliest profile refused is the one named.
 -- Assumes nothing.
-use mathlib.Core.Path.{_≡_, refl, sym, _∙_, ap, subst}
-use mathlib.Core.Logic.{inl, inr, _≢_}
+use mathlib.Core.Path.{_≡_, refl, sym, _∙_, ap}
+use mathlib.Core.Logic.{_≢_}
 use mathlib.Core.Option.{Option, none, some}
-use mathlib.Core.List.{List, [], _∷_, _++_, append-nil}
-use Prim.Native.Nat.{ℕ, zero, suc, _+_, _^_, _≤_, _<_}
-use native.Mathlib.Decide.{ℕ-discrete}
+use mathlib.Core.List.{List, [], _++_}
+use Prim.Native.Nat.{ℕ, _+_, _≤_, _<_}
 use native.Mathlib.Omega.{arith}
-use lib.Dec.{lit≤}
 use lib.ListN.{length, take, drop, length-append, length-take, length-drop, take-append-drop}
-use Rattle.meaning.specs.Curve.{Bucket, buckets, listOf}
+use Rattle.meaning.specs.Curve.{Bucket}
 use Rattle.meaning.specs.Server.{Server, join, last, Behind}
 use Rattle.meaning.specs.Refusal.{UNBOUNDED, LARGE, number, Clear, Verdict, accepted, TooLarge}
 use Rattle.meaning.specs.ServerQuestions.{ServerInRange}
-use Rattle.meaning.specs.Profile.{edition, curveKind, serverKind, curve, server, written, editionOf, kindIn, profileOf, bytesTaken, fileLines, field, fileBits, packed, spelt}
-use Rattle.meaning.specs.Route.{firstFile, afterFirst, bytes, digits, numbers, refusedText, IsCurve, IsServer, dueLines, joinLines, joinedWith, hopLines, Figures}
+use Rattle.meaning.specs.Profile.{edition, curveKind, server, written, editionOf, kindIn, profileOf, bytesTaken, fileLines}
+use Rattle.meaning.specs.Route.{firstFile, bytes, digits, numbers, refusedText, IsCurve, IsServer, dueLines, joinLines, hopLines, Figures}
 use Rattle.meaning.proofs.Lists.{curve-list}
 use Rattle.meaning.proofs.outcome.Outcomes.{line-hit, clear-or, refused-then}
-use Rattle.meaning.proofs.profile.Fields.{field-append}
 use Rattle.meaning.proofs.profile.Files.{more-than-one-byte, kind-append}
-use Rattle.meaning.proofs.profile.RoundTrip.{ReadsBack, read-back-server, clear-whole, clear-header}
-use Rattle.meaning.proofs.profile.Refusals.{header-wrong, cut-short}
-use Rattle.meaning.proofs.route.BackToBack.{first-whole, after-whole, first-cut, kind-cut, Begins, begins}
+use Rattle.meaning.proofs.profile.RoundTrip.{read-back-server, clear-whole}
+use Rattle.meaning.proofs.profile.Refusals.{cut-short}
+use Rattle.meaning.proofs.route.BackToBack.{first-whole, first-cut, kind-cut, begins}
 use Rattle.meaning.proofs.route.EveryRoute.{OnlyText, only-text}
 use Rattle.meaning.proofs.route.Line.{JoinedInRange}
 use Rattle.meaning.proofs.route.Winning.{not-due, nothing-there, curve-there, server-file-decides, curve-file-decides, reading-decides, port-decides, join-decides, behind-decides}
 use Rattle.meaning.proofs.route.Standing.{Standing, curve-refused, standing-over, standing-stops}
-use Rattle.meaning.proofs.route.Written.{Sound, sound-lines, sound-reads, due-clear, port-clear, file-there, written-start}
+use Rattle.meaning.proofs.route.Written.{Sound, sound-lines, due-clear, port-clear, file-there}
 
 -- ---- The curve.
 
