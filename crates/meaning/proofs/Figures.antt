@@ -19,8 +19,8 @@ use Rattle.meaning.proofs.server.Joining.{residual-is}
 use Rattle.meaning.proofs.route.Standing.{standing-ends}
 use Rattle.meaning.proofs.route.Written.{Sound, sound-lines, one-bucket, worked, join-clear, passes, written-start, written-hop}
 
--- the curve C
-c-sound : Sound C
+-- the curve C is sound
+pub c-sound : Sound C
 unfolding buckets isNormal
 c-sound = record { form = neighbours-sound C refl; ranged = omega arith; few = lit≤ tt }
 

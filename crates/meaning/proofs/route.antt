@@ -10,3 +10,6 @@ pub mod Standing
 pub mod Written
 pub mod Steps
 pub mod Codes
+pub mod Refusals
+pub mod Known
+pub mod Slips

@@ -134,7 +134,8 @@ pub record OnlyRefusedBytes (ask : BytesQuestion) (code : ℕ) : Type 0 where
 
 -- where an operand is refused it is so
 pub only-refused-bytes :
-    {ask : BytesQuestion} {code : ℕ} → UpTo 9 (ask .operands) → 1 ≤ code → Verdict (ask .operands) code → OnlyRefusedBytes ask code
+    {ask : BytesQuestion} {code : ℕ} → UpTo 9 (ask .operands) → 1 ≤ code → Verdict (ask .operands) code
+    → OnlyRefusedBytes ask code
 only-refused-bytes upto some (accepted clear e) = absurd (omega arith)
 only-refused-bytes upto some (rejected r w e) =
     record {

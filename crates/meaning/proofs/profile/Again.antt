@@ -34,8 +34,7 @@ unfolding writing
 only-written operands p clear = only-bytes (single-writing operands p) clear refl
 
 -- a curve that no line refuses,
-pub curve-written :
-    (l : List ℕ) → Clear (curveLines l) → OnlyBytes (writingCurve l) (written edition (curve (curveOf l)))
+pub curve-written : (l : List ℕ) → Clear (curveLines l) → OnlyBytes (writingCurve l) (written edition (curve (curveOf l)))
 curve-written l clear = only-written (curveLines l) (curve (curveOf l)) clear
 
 -- and a server that none refuses
@@ -145,7 +144,9 @@ pub record FileAgain (file before after : List ℕ) (code count : ℕ) : Type 0 
   pub bytes-are : take count after ≡ file
   pub buffer-is : after ≡ over file before
 
-file-again : {file before after : List ℕ} {code count : ℕ} → Same code count 0 (length file) after (over file before) → FileAgain file before after code count
+file-again :
+    {file before after : List ℕ} {code count : ℕ} → Same code count 0 (length file) after (over file before)
+    → FileAgain file before after code count
 file-again {file} {before} same =
     record {
       code-is = same .code-same;
@@ -189,8 +190,7 @@ module _
       form : NormalForm (bucketsOf (profileOf file))
       form = normal-stable (λ out. known .clear FORM (inr (rw holds-curve (inr (refl, out)))))
 
-      only-file :
-          OnlyBytes (writingCurve (readBack read (x .count))) file
+      only-file : OnlyBytes (writingCurve (readBack read (x .count))) file
       only-file =
           rw read-list
           (subst (OnlyBytes (writingCurve (listOf f)))
@@ -237,7 +237,7 @@ module _
 
 -- ---- Room for every profile.
 
--- no line of some that a test decides is ROOM's, where none is above UNBOUNDED
+-- what wins among lines none of which is above UNBOUNDED is not ROOM
 not-room : {lines : Lines} {r : Refusal} → UpTo 8 lines → Wins lines r → number r ≢ 10
 not-room {r = r} upto w e = omega (arith, upto r (w .holds), e)
 

@@ -176,7 +176,8 @@ pub file-bits-append : (file rest : List ℕ) → fileBits (file ++ rest) ≡ fi
 unfolding fileBits packed
 file-bits-append [] rest = refl
 file-bits-append (x ∷ file) rest =
-    ap (λ (l : List ℕ). bitsOf 8 x ++ l) (file-bits-append file rest) ∙ sym (append-assoc (bitsOf 8 x) (fileBits file) (fileBits rest))
+    ap (λ (l : List ℕ). bitsOf 8 x ++ l) (file-bits-append file rest)
+    ∙ sym (append-assoc (bitsOf 8 x) (fileBits file) (fileBits rest))
 
 -- Every number of the file is a byte.
 abbrev pub Bytes : List ℕ → Type 0

@@ -208,7 +208,9 @@ module _ (file : List ℕ) where
   unfolding fields kindIn
   standing-curve ed f some h =
       let count : field file 8 6 + 1 ≡ length f = omega (arith, h .1 .1 .0) in
-      held-curve (h .1 .0) ∙ ap (λ (n : ℕ). curve (bucketsIn file 14 n)) count ∙ ap curve (standing-buckets file 14 f (h .1 .1 .1))
+      held-curve (h .1 .0)
+      ∙ ap (λ (n : ℕ). curve (bucketsIn file 14 n)) count
+      ∙ ap curve (standing-buckets file 14 f (h .1 .1 .1))
 
   -- or a server
   pub standing-server : (ed : ℕ) (s : Server) → Stands file 0 (fields ed (server s)) → profileOf file ≡ server s
@@ -226,7 +228,8 @@ module _ (file : List ℕ) where
     unfolding padding bytesTaken
     padding-width =
         length-drop (length (profileBits (editionOf file) (profileOf file))) (fileBits file)
-        ∙ ap (λ (n : ℕ). n - length (profileBits (editionOf file) (profileOf file))) (length-file-bits file ∙ ap (λ (n : ℕ). 8 * n) whole)
+        ∙ ap (λ (n : ℕ). n - length (profileBits (editionOf file) (profileOf file)))
+        (length-file-bits file ∙ ap (λ (n : ℕ). 8 * n) whole)
 
     -- the padding of a file of the byte count required, as one more field
     pub padding-field :

@@ -8,7 +8,7 @@ use mathlib.Core.Option.{Option, none, some}
 use mathlib.Core.List.{List, [], _++_}
 use Prim.Native.Nat.{ℕ, _+_, _*_, _≤_, _<_}
 use native.Mathlib.Omega.{arith}
-use lib.ListN.{length, drop}
+use lib.ListN.{length, drop, replicate, length-replicate}
 use Rattle.meaning.specs.Curve.{Bucket, width, curveOf, listOf}
 use Rattle.meaning.specs.Server.{Server}
 use Rattle.meaning.specs.Refusal.{LARGE, ROOM, number, Lines, _when_, _or_, Clear, Verdict, accepted, rejected, TooLarge, Question, allLines, Outcome}
@@ -21,8 +21,8 @@ use Rattle.meaning.proofs.outcome.Answers.{code-zero, fits-few, readBac
 use Rattle.meaning.proofs.outcome.Demands.{answered-join}
 use Rattle.meaning.proofs.outcome.EveryInput.{Decided, decide-too-large}
 use Rattle.meaning.proofs.profile.Files.{held-few, held-server}
-use Rattle.meaning.proofs.profile.Outcomes.{only-read, only-refused, read-file}
-use Rattle.meaning.proofs.profile.Decided.{file-decided}
+use Rattle.meaning.proofs.profile.Outcomes.{OnlyRefused, only-read, only-refused, read-file}
+use Rattle.meaning.proofs.profile.Decided.{file-decided, read-has-outcome}
 use Rattle.meaning.proofs.server.HopByHop.{behind-unique}
 use Rattle.meaning.proofs.route.BackToBack.{same-start}
 use Rattle.meaning.proofs.route.Line.{sofar-in-range}
@@ -41,6 +41,15 @@ read-code {file} {before} {after} {x} o room = by-lines (file-decided file)
     by-lines (code, rejected r w e) =
         rw (only-refused (omega (arith, e, number-positive r)) (rejected r w e) .whatever-list o .code-same) (rejected r w e)
     by-lines (code, accepted clear e) = accepted clear (only-read file clear .with-room room o .code-same)
+
+-- a file that is refused whatever list is lent is refused by its lines
+pub refused-lines : {file : List ℕ} {code : ℕ} → OnlyRefused file code → Verdict (fileLines file) code
+refused-lines {file} known =
+    let lent : List ℕ = replicate (width * 64) 0 in
+    let read = read-has-outcome file lent in
+    rw (known .whatever-list (read .outcome) .code-same) at
+    (read-code (read .outcome)
+    (omega (arith, length-replicate {A = ℕ} (width * 64) 0, list-length (bucketsOf (profileOf file)), held-few file)))
 
 module _ (input : List ℕ) where
   module _ {before after : List ℕ} {x : Reading} (o : ReadOutcome (firstFile input) before after x) where

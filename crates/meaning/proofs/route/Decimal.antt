@@ -117,6 +117,17 @@ digits-decimal (suc most) n h =
 pub decimal : (n : ℕ) → n < 2 ^ 64 → Decimal n (digits 20 n)
 decimal n h = digits-decimal 19 n (lt-of-lt-of-le h (lit≤ tt))
 
+-- every byte that is printed for a number is a digit
+pub digits-each : (most n : ℕ) → AllDigits (digits most n)
+unfolding digits
+digits-each zero n = tt
+digits-each (suc most) n =
+    elim (le-or-lt 10 n) [
+      | inl many ↦
+          rw (digits-more most n many) (each-more (digits most (n / 10)) (48 + n % 10) (digits-each most (n / 10)) (omega arith) (omega arith))
+      | inr few ↦ rw (digits-one most n few) (omega arith, omega arith, tt)
+    ]
+
 -- ---- No other text is.
 
 -- Digits, and the last of them.

@@ -2,19 +2,21 @@
 -- decide. At a server the lines of reading come first, then those of the curve with the server, then those of joining and of the
 -- curve behind: in this order the first that holds has the smallest number of all.
 -- Assumes nothing.
-use mathlib.Core.Path.{_≡_, refl, sym, _∙_, subst}
+use mathlib.Core.Path.{_≡_, refl, sym, _∙_, ap, subst}
 use mathlib.Core.Logic.{inl, inr, _≢_}
 use mathlib.Core.Option.{Option, none, some}
-use mathlib.Core.List.{List}
+use mathlib.Core.List.{List, []}
 use Prim.Native.Nat.{ℕ, _≤_}
 use native.Mathlib.Nat.{le-trans}
 use native.Mathlib.Omega.{arith}
 use lib.Dec.{lit≤}
+use lib.ListN.{length}
+use lib.Seq.{take-nil}
 use Rattle.meaning.specs.Curve.{Bucket, listOf}
 use Rattle.meaning.specs.Server.{Server, Behind}
 use Rattle.meaning.specs.Refusal.{Refusal, HEADER, LENGTH, PAD, RANGE, UNBOUNDED, LARGE, number, Lines, _when_, _or_, Wins, Clear, Verdict, accepted, rejected, TooLarge, curveLines}
 use Rattle.meaning.specs.ServerQuestions.{ServerInRange, portLines}
-use Rattle.meaning.specs.Profile.{curveKind, Profile, curve, server, kindIn, profileOf, profileLines, fileLines, serverIn}
+use Rattle.meaning.specs.Profile.{curveKind, Profile, curve, server, kindIn, profileOf, bytesTaken, profileLines, fileLines, serverIn}
 use Rattle.meaning.specs.Route.{firstFile, IsCurve, IsServer, dueLines, joinLines, hopLines}
 use Rattle.meaning.proofs.outcome.Outcomes.{number-positive, From, from-when, from-or, UpTo, up-to-when, up-to-or, line-miss, clear-or, refused-then}
 use Rattle.meaning.proofs.outcome.Demands.{port-up-to}
@@ -25,22 +27,31 @@ use Rattle.meaning.proofs.route.EveryRoute.{join-up-to}
 
 -- ---- Where a profile is due.
 
-module _ (input : List ℕ) where
-  -- a curve where a server is due is 1,
-  pub curve-there : kindIn input ≡ curveKind → Verdict (dueLines IsServer input) 1
-  unfolding number
-  curve-there kind =
-      rejected HEADER
-      (record { holds = inl (refl, λ due. rw (held-curve input kind) at due); smallest = λ r h. number-positive r })
-      refl
+-- what is not due there is 1,
+pub not-due : (Due : Profile → Type 0) (input : List ℕ) → (Due (profileOf input) → ⊥) → Verdict (dueLines Due input) 1
+unfolding number
+not-due Due input other =
+    rejected HEADER (record { holds = inl (refl, other); smallest = λ r h. number-positive r }) refl
 
-  -- anything else where the curve is due is 1,
+-- nothing at all where either is due,
+pub nothing-there : (Due : Profile → Type 0) → Verdict (dueLines Due []) 1
+unfolding number firstFile
+nothing-there Due =
+    rejected HEADER
+    (record {
+      holds = inr (inl (inl (inl (refl, inl (ap length (take-nil (bytesTaken [])))))));
+      smallest = λ r h. number-positive r;
+    })
+    refl
+
+module _ (input : List ℕ) where
+  -- a curve where a server is due,
+  pub curve-there : kindIn input ≡ curveKind → Verdict (dueLines IsServer input) 1
+  curve-there kind = not-due IsServer input (λ due. rw (held-curve input kind) at due)
+
+  -- anything else where the curve is due;
   pub no-curve-there : kindIn input ≢ curveKind → Verdict (dueLines IsCurve input) 1
-  unfolding number
-  no-curve-there kind =
-      rejected HEADER
-      (record { holds = inl (refl, λ due. rw (held-server input kind) at due); smallest = λ r h. number-positive r })
-      refl
+  no-curve-there kind = not-due IsCurve input (λ due. rw (held-server input kind) at due)
 
   module _ {code : ℕ} (v : Verdict (fileLines (firstFile input)) code) where
     -- and otherwise the lines of the file decide: of a server's,
