@@ -39,11 +39,11 @@ extern "C" {
 /* The codes. */
 enum {
     DUCHRELIN_ANSWERED = 0,
-    DUCHRELIN_HEADER = 1,    /* a file is empty, its edition is not 1, or its kind is not 1 or 2 */
+    DUCHRELIN_HEADER = 1,    /* a file is empty, its edition is not 1, or its kind is not 1 or 2; in a route, not the kind that is due */
     DUCHRELIN_LENGTH = 2,    /* a file has not the bytes that its kind and count require */
     DUCHRELIN_PAD = 3,       /* a padding bit is 1 */
     DUCHRELIN_LIST = 4,      /* a curve list is empty or of odd length */
-    DUCHRELIN_COUNT = 5,     /* a curve list has over 64 buckets */
+    DUCHRELIN_COUNT = 5,     /* a curve list has over 64 buckets; a route has over 32 servers */
     DUCHRELIN_RANGE = 6,     /* a rate, burst, latency, tick or link rate is outside its range */
     DUCHRELIN_FORM = 7,      /* a curve is not in normal form */
     DUCHRELIN_UNBOUNDED = 8, /* the curve's last rate is too large for the server */
@@ -68,6 +68,12 @@ enum {
     DUCHRELIN_TEXT_BYTES = 1145,
     DUCHRELIN_INPUT_BYTES = 675
 };
+
+/* Ends of ranges: a rate, a burst, a latency and a tick are below these. (A server's rate and a link's rate are at least 1.) */
+#define DUCHRELIN_RATE_END (UINT64_C(1) << 20)
+#define DUCHRELIN_BURST_END (UINT64_C(1) << 40)
+#define DUCHRELIN_LATENCY_END (UINT64_C(1) << 20)
+#define DUCHRELIN_TICK_END (UINT64_C(1) << 40)
 
 /* A code, and the count of buckets of the curve in the output list. */
 typedef struct duchrelin_answer {
