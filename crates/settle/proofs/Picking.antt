@@ -18,11 +18,12 @@ use Rattle.meaning.specs.Computed.{Ends, everyTime, narrowed, isOpen, staysOpen
 use Rattle.meaning.proofs.curve.Usefulness.{useful-sound, useful-complete}
 use Rattle.meaning.proofs.curve.Normal.{Chosen, chosen-among}
 use Rattle.checks.specs.Contracts.{bucketOf}
-use Rattle.settle.specs.Contracts.{Wide, AllWide, endsOf, EndsFit, SearchFits, Ahead, First, Best, Chose}
+use Rattle.settle.specs.Contracts.{Wide, AllWide, endsOf, EndsFit, Searching, Leaves, bucketFrom, Ahead, First, Comes, Chose}
 use Rattle.checks.specs.declared.Bucket as held-bucket
-use Rattle.settle.specs.declared.search.Ends as held-ends
-use Rattle.settle.specs.declared.search.Found.{Found}
-use Rattle.checks.proofs.Buckets.{bucket-at, buckets-next, buckets-end, flat-append}
+use Rattle.settle.specs.declared.candidates.Candidate.{Candidate}
+use Rattle.settle.specs.declared.ends.Ends as held-ends
+use Rattle.settle.specs.declared.ends.Left.{Left}
+use Rattle.checks.proofs.Buckets.{buckets-next, buckets-end, flat-append}
 use Rattle.settle.proofs.Narrowing.{narrowed-fits}
 use Rattle.settle.proofs.Steepest.{longer}
 
@@ -143,10 +144,12 @@ module _ {raw : List Bucket} {bound : ℕ} {front rest : List Bucket} (p : Parte
 
 -- The ends so far, and the buckets from index j on, decide whether the candidate is useful.
 pub record Searched (raw : List ℕ) (c : held-bucket.Bucket) (ends : held-ends.Ends) (j : ℕ) : Type 0 where
+  pub short : length raw < 2 ^ 64
   pub inside : j ≤ length raw
   pub candidate : Wide (bucketOf c)
   pub others : AllWide (buckets (drop j raw))
   pub ends-fit : EndsFit (endsOf ends)
+  pub any-time : isOpen (endsOf ends) ≡ true
   pub decides : staysOpen (bucketOf c) (endsOf ends) (buckets (drop j raw)) ≡ isUseful (buckets raw) (bucketOf c)
 
 module _ {raw : List ℕ} {c : held-bucket.Bucket} {ends : held-ends.Ends} {j : ℕ} (w : Searched raw c ends j) where
@@ -155,50 +158,59 @@ module _ {raw : List ℕ} {c : held-bucket.Bucket} {ends : held-ends.Ends} {j : 
   unfolding staysOpen
   searched-end h = sym (w .decides) ∙ ap (staysOpen (bucketOf c) (endsOf ends)) (buckets-end raw j h)
 
-  module _ (more : j + 1 < length raw) where
-    here : AllWide (bucket-at raw j ∷ buckets (drop (j + 2) raw))
-    here = rw (buckets-next raw j more) at (w .others)
+  module _ (more : j + 1 < length raw) {other : held-bucket.Bucket} (is : bucketOf other ≡ bucketFrom raw j) where
+    next : buckets (drop j raw) ≡ bucketOf other ∷ buckets (drop (j + 2) raw)
+    next = buckets-next raw j more ∙ cc
 
-    -- what the next bucket is tried with fits
-    pub searched-fits : SearchFits (bucketOf c) (bucket-at raw j) (endsOf ends)
-    searched-fits =
-        record { candidate = w .candidate; next = here (bucket-at raw j) (List·Memᴰ·head refl); ends = w .ends-fit }
+    here : AllWide (bucketOf other ∷ buckets (drop (j + 2) raw))
+    here = subst AllWide next (w .others)
+
+    -- the next bucket is tried
+    pub searched-next : Searching (bucketOf c) (bucketOf other) (endsOf ends)
+    searched-next =
+        record {
+          candidate = w .candidate;
+          next = here (bucketOf other) (List·Memᴰ·head refl);
+          ends = w .ends-fit;
+          any-time = w .any-time;
+        }
 
     -- it narrows the ends
-    module _ {left : held-ends.Ends} (narrow : endsOf left ≡ narrowed (bucketOf c) (bucket-at raw j) (endsOf ends)) where
-      pub searched-left-fits : EndsFit (endsOf left)
-      searched-left-fits = rw narrow (narrowed-fits _ _ _ searched-fits)
-
+    module _ {left : Left} (narrow : Leaves (narrowed (bucketOf c) (bucketOf other) (endsOf ends)) left) where
       next-decides :
-          isOpen (endsOf left) && staysOpen (bucketOf c) (endsOf left) (buckets (drop (j + 2) raw))
+          left .any && staysOpen (bucketOf c) (endsOf (left .ends)) (buckets (drop (j + 2) raw))
           ≡ isUseful (buckets raw) (bucketOf c)
       unfolding staysOpen
       next-decides =
-          ap (λ (e : Ends). isOpen e && staysOpen (bucketOf c) e (buckets (drop (j + 2) raw))) narrow
-          ∙ ap (staysOpen (bucketOf c) (endsOf ends)) (sym (buckets-next raw j more))
+          ap (λ (t : Bool). t && staysOpen (bucketOf c) (endsOf (left .ends)) (buckets (drop (j + 2) raw))) (narrow .any-is)
+          ∙ ap
+          (λ (e : Ends). isOpen (narrowed (bucketOf c) (bucketOf other) (endsOf ends)) && staysOpen (bucketOf c) e (buckets (drop (j + 2) raw)))
+          (narrow .ends-are)
+          ∙ ap (staysOpen (bucketOf c) (endsOf ends)) (sym next)
           ∙ w .decides
 
-      module _ {answer : Bool} (o : answer ≡ isOpen (endsOf left)) where
-        -- no time is left
-        pub searched-shut : not answer ≡ true → isUseful (buckets raw) (bucketOf c) ≡ false
-        searched-shut shut =
-            sym next-decides
-            ∙ ap (λ (t : Bool). t && staysOpen (bucketOf c) (endsOf left) (buckets (drop (j + 2) raw)))
-            (sym o ∙ not-true answer shut)
+      -- no time is left
+      pub searched-shut : not (left .any) ≡ true → isUseful (buckets raw) (bucketOf c) ≡ false
+      searched-shut shut =
+          sym next-decides
+          ∙ ap (λ (t : Bool). t && staysOpen (bucketOf c) (endsOf (left .ends)) (buckets (drop (j + 2) raw)))
+          (not-true (left .any) shut)
 
-        -- some time is left
-        pub searched-step : not answer ≡ false → Searched raw c left (j + 2)
-        searched-step opens =
-            record {
-              inside = omega arith;
-              candidate = w .candidate;
-              others = λ k m. here k (List·Memᴰ·tail m);
-              ends-fit = searched-left-fits;
-              decides =
-                  ap (λ (t : Bool). t && staysOpen (bucketOf c) (endsOf left) (buckets (drop (j + 2) raw)))
-                  (sym (not-false answer opens) ∙ o)
-                  ∙ next-decides;
-            }
+      -- some time is left
+      pub searched-step : not (left .any) ≡ false → Searched raw c (left .ends) (j + 2)
+      searched-step opens =
+          record {
+            short = w .short;
+            inside = omega arith;
+            candidate = w .candidate;
+            others = λ k m. here k (List·Memᴰ·tail m);
+            ends-fit = rw (narrow .ends-are) (narrowed-fits _ _ _ searched-next);
+            any-time = ap isOpen (narrow .ends-are) ∙ sym (narrow .any-is) ∙ not-false (left .any) opens;
+            decides =
+                ap (λ (t : Bool). t && staysOpen (bucketOf c) (endsOf (left .ends)) (buckets (drop (j + 2) raw)))
+                (sym (not-false (left .any) opens))
+                ∙ next-decides;
+          }
 
 -- ---- The buckets picked, in memory.
 
@@ -215,6 +227,7 @@ take-two l n a b h = simp towards-suc two
 
 -- The numbers at the start of a list are the front of the normal form, with the rates from the bound up.
 pub record Picked (raw out : List ℕ) (count bound : ℕ) : Type 0 where
+  pub short : length raw < 2 ^ 64
   pub wide : AllWide (buckets raw)
   pub long : length out ≡ 128
   pub few : count ≤ 64
@@ -224,10 +237,12 @@ pub record Picked (raw out : List ℕ) (count bound : ℕ) : Type 0 where
   pub counted : length front ≡ count
   pub stands : take (2 * count) out ≡ flat front
 
-pub picked-start : {raw out : List ℕ} → AllWide (buckets raw) → length out ≡ 128 → Picked raw out 0 (2 ^ 21)
+pub picked-start :
+    {raw out : List ℕ} → length raw < 2 ^ 64 → AllWide (buckets raw) → length out ≡ 128 → Picked raw out 0 (2 ^ 21)
 unfolding flat
-picked-start wide long =
+picked-start short wide long =
     record {
+      short = short;
       wide = wide;
       long = long;
       few = omega arith;
@@ -239,42 +254,45 @@ picked-start wide long =
     }
 
 module _
-    {raw out : List ℕ} {count bound : ℕ} (w : Picked raw out count bound) {found : Found}
-    (best : Best bound (buckets raw) found) where
+    {raw out : List ℕ} {count bound : ℕ} (w : Picked raw out count bound) {next : Candidate} (comes : Comes bound raw next)
+  where
   -- no bucket is left below the bound
-  pub picked-end : not (found .some) ≡ true → Chose (buckets raw) out count
+  pub picked-end : not (next .some) ≡ true → Chose (buckets raw) out count
   picked-end none =
-      let all = parted-end (w .parted) (best .none (not-true _ none)) in
+      let all = parted-end (w .parted) (comes .best .none (not-true _ none)) in
       record {
         whole = λ h. w .stands ∙ ap flat all;
         counted = λ h. sym (w .counted) ∙ ap length all;
         over-many = λ h. absurd (omega (arith, w .few));
       }
 
-  module _ (some : not (found .some) ≡ false) where
-    first : First bound (buckets raw) (bucketOf (found .bucket))
-    first = best .first (not-false _ some)
+  module _ (some : not (next .some) ≡ false) where
+    first : First bound (buckets raw) (bucketOf (next .bucket))
+    first = comes .best .first (not-false _ some)
 
-    pub picked-less : found .bucket .rate < bound
+    pub picked-less : next .bucket .rate < bound
     picked-less = first .below
 
     -- the search over the candidate begins
-    pub searched-start : Searched raw (found .bucket) (record { low = 0; «low_over» = 1; high = 1; «high_over» = 0 }) 0
-    unfolding isUseful everyTime
-    searched-start =
+    pub searched-start : {ends : held-ends.Ends} → endsOf ends ≡ everyTime → Searched raw (next .bucket) ends 0
+    unfolding isUseful everyTime isOpen
+    searched-start every =
         record {
+          short = w .short;
           inside = omega arith;
           candidate = w .wide _ (first .inside);
           others = w .wide;
-          ends-fit = omega arith;
-          decides = refl;
+          ends-fit = rw every (omega arith);
+          any-time = ap isOpen every;
+          decides = rw every refl;
         }
 
     -- it is useless
     pub picked-skip :
-        isUseful (buckets raw) (bucketOf (found .bucket)) ≡ false → Picked raw out count (found .bucket .rate)
+        isUseful (buckets raw) (bucketOf (next .bucket)) ≡ false → Picked raw out count (next .bucket .rate)
     picked-skip useless =
         record {
+          short = w .short;
           wide = w .wide;
           long = w .long;
           few = w .few;
@@ -286,11 +304,11 @@ module _
         }
 
     -- it is useful
-    module _ (useful : isUseful (buckets raw) (bucketOf (found .bucket)) ≡ true) where
-      taken : Taken (buckets raw) (w .front) (bucketOf (found .bucket))
+    module _ (useful : isUseful (buckets raw) (bucketOf (next .bucket)) ≡ true) where
+      taken : Taken (buckets raw) (w .front) (bucketOf (next .bucket))
       taken = parted-take (w .parted) first useful
 
-      counted-more : length (w .front ++ bucketOf (found .bucket) ∷ []) ≡ count + 1
+      counted-more : length (w .front ++ bucketOf (next .bucket) ∷ []) ≡ count + 1
       counted-more = length-append (w .front) _ ∙ ap (λ (n : ℕ). n + 1) (w .counted)
 
       -- one more than 64
@@ -303,7 +321,7 @@ module _
                 omega (
                   arith,
                   counted-more,
-                  length-append (w .front ++ bucketOf (found .bucket) ∷ []) (taken .left),
+                  length-append (w .front ++ bucketOf (next .bucket) ∷ []) (taken .left),
                   ap length (taken .parted .whole),
                 );
           }
@@ -311,15 +329,16 @@ module _
       -- it is written behind the others
       pub picked-take :
           (count ≡ 64 → ⊥)
-          → Picked raw (set (set out (2 * count) (found .bucket .rate)) (2 * count + 1) (found .bucket .burst)) (count + 1)
-          (found .bucket .rate)
+          → Picked raw (set (set out (2 * count) (next .bucket .rate)) (2 * count + 1) (next .bucket .burst)) (count + 1)
+          (next .bucket .rate)
       unfolding flat
       picked-take short =
           record {
+            short = w .short;
             wide = w .wide;
             long = simp length-set (w .long);
             few = omega (arith, w .few);
-            front = w .front ++ bucketOf (found .bucket) ∷ [];
+            front = w .front ++ bucketOf (next .bucket) ∷ [];
             rest = taken .left;
             parted = taken .parted;
             counted = counted-more;
@@ -327,7 +346,7 @@ module _
           }
         where
           k : held-bucket.Bucket
-          k = found .bucket
+          k = next .bucket
 
           standing :
               take (2 * (count + 1)) (set (set out (2 * count) (k .rate)) (2 * count + 1) (k .burst))
@@ -342,8 +361,7 @@ module _
 pub ruleset picking = (
   searched-start,
   searched-end,
-  searched-fits,
-  searched-left-fits,
+  searched-next,
   searched-shut,
   searched-step,
   picked-start,

@@ -3,19 +3,20 @@
 -- Assumes nothing.
 use mathlib.Core.Path.{_≡_, refl, sym, _∙_, ap, subst}
 use mathlib.Core.Logic.{_⊎_, inl, inr}
-use mathlib.Core.Bool.{true, false, true≢false}
+use mathlib.Core.Bool.{Bool, true, false, true≢false}
 use mathlib.Core.List.{List, [], _∷_, _++_, append-nil, List·Memᴰ·head, List·Memᴰ·append-cases, List·Memᴰ·eq-of-singleton, List·Memᴰ·not-nil, Memᴰ·append-left, Memᴰ·append-right}
 use Prim.Native.Nat.{ℕ, _+_, _%_, _≤_, _<_}
 use native.Mathlib.Nat.{le-of-lt}
 use native.Mathlib.Omega.{arith}
 use borrow.Author.Tests.{not-true, not-false}
-use lib.ListN.{length, getD, take, drop, take-append-drop}
+use lib.ListN.{length, take, drop, take-append-drop}
 use lib.Seq.{length-take-le}
 use Rattle.meaning.specs.Curve.{Bucket, _∈_, buckets}
-use Rattle.checks.specs.Contracts.{bucketOf}
-use Rattle.settle.specs.Contracts.{Ahead, Best, Keeps}
+use Rattle.checks.specs.Contracts.{Tells, bucketOf}
+use Rattle.settle.specs.Contracts.{bucketFrom, Ahead, Best, Keeps}
 use Rattle.checks.specs.declared.Bucket as held
-use Rattle.settle.specs.declared.search.Found.{Found}
+use Rattle.settle.specs.declared.candidates.Found.{Found}
+use Rattle.meaning.proofs.Order.{not-above}
 use Rattle.checks.proofs.Buckets.{buckets-end, buckets-append, buckets-passed}
 
 -- ---- The order.
@@ -32,9 +33,17 @@ ahead-steeper h = record { steeper = omega arith; lower = λ same. absurd (omega
 pub ahead-lower : {c k : Bucket} → k .rate ≤ c .rate → c .burst ≤ k .burst → Ahead c k
 ahead-lower h l = record { steeper = h; lower = λ same. l }
 
-ahead-further : {a b c : Bucket} → Ahead a b → Ahead b c → Ahead a c
+pub ahead-further : {a b c : Bucket} → Ahead a b → Ahead b c → Ahead a c
 ahead-further ab bc =
     record { steeper = omega arith; lower = λ same. omega (arith, ab .lower (omega arith), bc .lower (omega arith)) }
+
+-- of two buckets one is ahead
+ahead-other : {c k : Bucket} → (Ahead c k → ⊥) → Ahead k c
+ahead-other never =
+    record {
+      steeper = not-above (λ h. never (ahead-steeper h));
+      lower = λ same. not-above (λ h. never (ahead-lower (omega arith) (le-of-lt h)));
+    }
 
 -- ---- One bucket more.
 
@@ -104,10 +113,25 @@ module _ {bound : ℕ} {best : Found} {next : held.Bucket} where
         → Keeps bound best next (record { some = true; bucket = next })
     takes-ahead t a = takes (λ f b k m h. ahead-further a (b .first t .ahead k m h))
 
-pub ruleset bettering =
-    (keeps-past, keeps-ahead, takes-first, takes-ahead, ahead-steeper, ahead-lower, not-true, not-false, le-of-lt)
+  -- as the test of the two tells
+  module _ (t : best .some ≡ true) {answer : Bool} (tells : Tells (Ahead (bucketOf (best .bucket)) (bucketOf next)) answer) where
+    pub keeps-told : answer ≡ true → Keeps bound best next best
+    keeps-told y = keeps-ahead t (tells .yes-means y)
+
+    pub takes-told : next .rate < bound → answer ≡ false → Keeps bound best next (record { some = true; bucket = next })
+    takes-told l n = takes-ahead l t (ahead-other (tells .no-means n))
+
+pub ruleset bettering = (keeps-past, keeps-told, takes-first, takes-told, not-true, not-false)
 
 -- ---- One pass.
+
+-- where no bucket is left, those passed are all
+pub all-passed : (l : List ℕ) (i : ℕ) → i ≤ length l → i % 2 ≡ 0 → length l ≤ i + 1 → buckets (take i l) ≡ buckets l
+all-passed l i inside even h =
+    sym (append-nil _)
+    ∙ ap (λ (f : List Bucket). buckets (take i l) ++ f) (sym (buckets-end l i h))
+    ∙ sym (buckets-append (take i l) (drop i l) (omega (arith, length-take-le i l inside)))
+    ∙ ap buckets (take-append-drop i l)
 
 -- The best of the buckets up to an even index.
 pub record Sought (bound : ℕ) (l : List ℕ) (best : Found) (i : ℕ) : Type 0 where
@@ -126,23 +150,16 @@ sought-start =
 
 module _ {bound : ℕ} {l : List ℕ} {best : Found} {i : ℕ} (w : Sought bound l best i) where
   pub sought-step :
-      {after : Found} → i + 1 < length l → Keeps bound best (record { rate = getD l i 0; burst = getD l (i + 1) 0 }) after
-      → Sought bound l after (i + 2)
-  sought-step more kept =
+      {next : held.Bucket} {after : Found} → i + 1 < length l → bucketOf next ≡ bucketFrom l i
+      → Keeps bound best next after → Sought bound l after (i + 2)
+  sought-step more is kept =
       record {
         inside = omega arith;
         even = omega arith;
-        best-is = rw (buckets-passed l i (w .even) more) (kept .added _ (w .best-is));
+        best-is = rw (buckets-passed l i (w .even) more, ← is) (kept .added _ (w .best-is));
       }
 
   pub sought-end : length l ≤ i + 1 → Best bound (buckets l) best
-  sought-end h = subst (λ (f : List Bucket). Best bound f best) all (w .best-is)
-    where
-      all : buckets (take i l) ≡ buckets l
-      all =
-          sym (append-nil _)
-          ∙ ap (λ (f : List Bucket). buckets (take i l) ++ f) (sym (buckets-end l i h))
-          ∙ sym (buckets-append (take i l) (drop i l) (omega (arith, length-take-le i l (w .inside))))
-          ∙ ap buckets (take-append-drop i l)
+  sought-end h = subst (λ (f : List Bucket). Best bound f best) (all-passed l i (w .inside) (w .even) h) (w .best-is)
 
 pub ruleset seeking = (sought-start, sought-step, sought-end)

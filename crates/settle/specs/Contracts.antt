@@ -3,15 +3,17 @@
 use mathlib.Core.Path.{_≡_}
 use mathlib.Core.Bool.{Bool, true, false}
 use mathlib.Core.List.{List, [], _∷_, _++_}
-use Prim.Native.Nat.{ℕ, _*_, _^_, _≤_, _<_}
-use lib.ListN.{length, take, drop}
+use Prim.Native.Nat.{ℕ, _+_, _*_, _%_, _^_, _≤_, _<_}
+use lib.ListN.{length, getD, take, drop}
 use Rattle.meaning.specs.Curve.{Bucket, _∈_, buckets, flat, NormalOf}
-use Rattle.meaning.specs.Computed.{Ends, normal}
+use Rattle.meaning.specs.Computed.{Ends, isOpen, normal}
 use Rattle.meaning.specs.Refusal.{LIST, RANGE, _when_, _or_, Within, AllWithin, Uneven, Question, over, part}
 use Rattle.checks.specs.Contracts.{bucketOf}
 use Rattle.checks.specs.declared.Bucket as held-bucket
-use Rattle.settle.specs.declared.search.Ends as held-ends
-use Rattle.settle.specs.declared.search.Found.{Found}
+use Rattle.settle.specs.declared.candidates.Candidate.{Candidate}
+use Rattle.settle.specs.declared.candidates.Found.{Found}
+use Rattle.settle.specs.declared.ends.Ends as held-ends
+use Rattle.settle.specs.declared.ends.Left.{Left}
 
 -- Raw buckets of a question, before normal form is taken: within twice the range of a curve's, as those of a sum or of a
 -- curve behind a server are.
@@ -31,7 +33,7 @@ settling raw =
 unfoldable pub delivering : List ℕ → Question
 delivering pairs = record { operands = LIST when (Uneven 2 pairs); Answer = λ f. f ≡ buckets pairs }
 
--- ---- What the steps of settling say.
+-- ---- The search over one candidate.
 
 -- The ends that code holds.
 abbrev pub endsOf : held-ends.Ends → Ends
@@ -44,16 +46,33 @@ pub record EndsFit (e : Ends) : Type 0 where
   pub high-fits : e .high < 2 ^ 41
   pub high-over-fits : e .highOver < 2 ^ 21
 
--- What the search over a candidate c holds fits: c, the next bucket j, and the ends.
-pub record SearchFits (c j : Bucket) (e : Ends) : Type 0 where
+-- The search over a candidate c is at bucket j: both fit, as the ends do, between which some time is left.
+pub record Searching (c j : Bucket) (e : Ends) : Type 0 where
   pub candidate : Wide c
   pub next : Wide j
   pub ends : EndsFit e
+  pub any-time : isOpen e ≡ true
+
+-- The ends, and whether some time is left between them.
+pub record Leaves (e : Ends) (x : Left) : Type 0 where
+  pub ends-are : endsOf (x .ends) ≡ e
+  pub any-is : x .any ≡ isOpen e
+
+-- ---- The candidates.
+
+-- The bucket at an index of a list of numbers: its rate stands there, and its burst behind.
+abbrev pub bucketFrom : List ℕ → ℕ → Bucket
+bucketFrom l i = record { rate = getD l i 0; burst = getD l (i + 1) 0 }
 
 -- By falling rates, and by rising bursts among those of one rate, c is not behind k.
 pub record Ahead (c k : Bucket) : Type 0 where
   pub steeper : k .rate ≤ c .rate
   pub lower : k .rate ≡ c .rate → c .burst ≤ k .burst
+
+-- Buckets that stand in that order: rates never rise, and among those of one rate bursts never fall.
+unfoldable pub InOrder : List Bucket → Type 0
+InOrder [] = Unit {0}
+InOrder (k ∷ f) = ((j : Bucket) → j ∈ f → Ahead k j) × InOrder f
 
 -- Of the buckets with a rate below the bound c is the first by that order.
 pub record First (bound : ℕ) (f : List Bucket) (c : Bucket) : Type 0 where
@@ -69,6 +88,24 @@ pub record Best (bound : ℕ) (f : List Bucket) (x : Found) : Type 0 where
 -- Of every list of which the one is the best, the other is the best once the next bucket is added.
 pub record Keeps (bound : ℕ) (best : Found) (next : held-bucket.Bucket) (after : Found) : Type 0 where
   pub added : (f : List Bucket) → Best bound f best → Best bound (f ++ bucketOf next ∷ []) after
+
+-- No bucket before the index i has a rate below the bound.
+pub record Passed (bound : ℕ) (l : List ℕ) (i : ℕ) : Type 0 where
+  pub inside : i ≤ length l
+  pub even : i % 2 ≡ 0
+  pub steeper : (k : Bucket) → k ∈ buckets (take i l) → bound ≤ k .rate
+
+-- So the next candidate may be looked for from there on, if the list is in order.
+pub record Ready (bound : ℕ) (l : List ℕ) (i : ℕ) (ordered : Bool) : Type 0 where
+  pub in-order : ordered ≡ true → InOrder (buckets l)
+  pub passed : Passed bound l i
+
+-- The next candidate, and an index before which no bucket is below the bound.
+pub record Comes (bound : ℕ) (l : List ℕ) (x : Candidate) : Type 0 where
+  pub best : Best bound (buckets l) (record { some = x .some; bucket = x .bucket })
+  pub passed : Passed bound l (x .at)
+
+-- ---- What is written.
 
 -- The normal form stands at the start of a list, with its count; or the count is over 64, and so is the normal form's.
 pub record Chose (raw : List Bucket) (out : List ℕ) (count : ℕ) : Type 0 where

@@ -3,10 +3,14 @@
 -- Assumes nothing.
 use Prim.Native.Nat.{_-_}
 use lib.ListN.{length}
-use borrow.Author.Needs.{needs}
 use Rattle.settle.proofs.Steepest.{Sought, seeking}
-use Rattle.settle.proofs.search.steepest_below.Statement.{statement}
-use Rattle.settle.proofs.search.steepest_below.Tie as tie
+use borrow.Author.Needs.{needs}
+use Rattle.settle.proofs.candidates.steepest_below.Statement.{statement}
+use Rattle.settle.proofs.candidates.steepest_below.Tie as tie
+use Rattle.settle.proofs.candidates.steepest_below.Reads as reads
+use Rattle.settle.proofs.candidates.steepest_below.Lts as lts
+use Rattle.settle.proofs.candidates.better.Reads as better-reads
+use Rattle.settle.proofs.candidates.bucket_from.Reads as bucket-from-reads
 
 abbrev Inv-loop : tie.InvT-loop
 Inv-loop raw bound best₀ i₀ best i = Sought bound raw best i
@@ -14,39 +18,35 @@ Inv-loop raw bound best₀ i₀ best i = Sought bound raw best i
 abbrev μ-loop : tie.MeasureT-loop
 μ-loop raw bound best₀ i₀ best i = length raw - i
 
+-- src/candidates.rt:113:5
 loop-holds : tie.Need-loop-holds Inv-loop μ-loop
 loop-holds c = search (seeking, needs)
 
+-- src/candidates.rt:113:11
 add-loop : tie.Need-add-loop Inv-loop μ-loop
 add-loop c = search (seeking, needs)
 
-mul-t7 : tie.Need-mul-t7 Inv-loop μ-loop
-mul-t7 c = search (seeking, needs)
+-- src/candidates.rt:114:29
+bucket-from-requires : tie.Need-bucket-from-requires Inv-loop μ-loop
+bucket-from-requires c κs = search (seeking, needs)
 
-shared-slice-read-t11 : tie.Need-shared-slice-read-t11 Inv-loop μ-loop
-shared-slice-read-t11 c = search (seeking, needs)
-
-add-t8 : tie.Need-add-t8 Inv-loop μ-loop
-add-t8 c = search (seeking, needs)
-
-mul-t12 : tie.Need-mul-t12 Inv-loop μ-loop
-mul-t12 c = search (seeking, needs)
-
-shared-slice-read-t14 : tie.Need-shared-slice-read-t14 Inv-loop μ-loop
-shared-slice-read-t14 c = search (seeking, needs)
-
+-- src/candidates.rt:114:9
 better-requires : tie.Need-better-requires Inv-loop μ-loop
 better-requires c κs = search (seeking, needs)
 
+-- src/candidates.rt:115:9
 add-i : tie.Need-add-i Inv-loop μ-loop
 add-i c = search (seeking, needs)
 
+-- src/candidates.rt:113:5
 loop-less : tie.Need-loop-less Inv-loop μ-loop
 loop-less c = search (seeking, needs)
 
+-- src/candidates.rt:113:5
 loop-again : tie.Need-loop-again Inv-loop μ-loop
 loop-again c = search (seeking, needs)
 
+-- src/candidates.rt:105:1
 returns : tie.Need-returns Inv-loop μ-loop
 returns c = search (seeking, needs)
 
@@ -58,11 +58,7 @@ steepest-below-spec =
     μ-loop
     loop-holds
     add-loop
-    mul-t7
-    shared-slice-read-t11
-    add-t8
-    mul-t12
-    shared-slice-read-t14
+    bucket-from-requires
     better-requires
     add-i
     loop-less
