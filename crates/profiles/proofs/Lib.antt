@@ -4,3 +4,4 @@ pub mod Header
 pub mod Framing
 pub mod Decoding
 pub mod Readings
+pub mod Putting

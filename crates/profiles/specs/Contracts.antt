@@ -2,13 +2,13 @@
 -- Assumes nothing.
 use mathlib.Core.Path.{_≡_}
 use mathlib.Core.Logic.{_⊎_, _≢_}
-use mathlib.Core.List.{List, List·Memᴰ}
-use Prim.Native.Nat.{ℕ, _+_, _*_, _≤_, _<_}
+use mathlib.Core.List.{List, _++_, List·Memᴰ}
+use Prim.Native.Nat.{ℕ, _+_, _*_, _/_, _%_, _^_, _≤_, _<_}
 use lib.ListN.{length, take}
 use Rattle.meaning.specs.Curve.{flat}
 use Rattle.meaning.specs.Server.{noServer}
 use Rattle.meaning.specs.Refusal.{HEADER, LENGTH, PAD, Lines, _when_, _or_, Clear}
-use Rattle.meaning.specs.Profile.{edition, curveKind, serverKind, field, bucketsIn, editionOf, kindIn, bytesTaken, padding, Reading, ReadPartOutcome}
+use Rattle.meaning.specs.Profile.{bitsOf, fileBits, edition, curveKind, serverKind, field, bucketsIn, editionOf, kindIn, bytesTaken, padding, Reading, ReadPartOutcome}
 use Rattle.servers.specs.Contracts.{serverOf}
 use Rattle.profiles.specs.declared.Profile as held-profile
 
@@ -80,3 +80,28 @@ pub record Decoded (file : List ℕ) (count : ℕ) (pairs : List ℕ) : Type 0 w
 -- A file is read, and every list that is lent stays.
 pub record ReadAlone (file : List ℕ) (x : held-profile.Profile) : Type 0 where
   pub outcome : (at room : ℕ) (table : List ℕ) → ReadPartOutcome file at room table table (readingOf x)
+
+-- ---- Packing.
+
+-- What is packed up to a bit: the bytes that are full, and what is left.
+unfoldable pub packedBits : List ℕ → ℕ → ℕ → List ℕ
+packedBits bytes at left = fileBits (take (at / 8) bytes) ++ bitsOf (at % 8) left
+
+-- Every number of a list is a byte.
+abbrev pub AreBytes : List ℕ → Type 0
+AreBytes l = (x : ℕ) → List·Memᴰ x l → x < 256
+
+-- A field of at most 40 bits, into which x fits, that lies in the bytes, not further on than 4096 bits.
+pub record Fitting (bytes : List ℕ) (at left width x : ℕ) : Type 0 where
+  pub left-fits : left < 2 ^ (at % 8)
+  pub fits : x < 2 ^ width
+  pub inside : at + width ≤ 8 * length bytes
+  pub near : at ≤ 4096
+  pub narrow : width ≤ 40
+
+-- Bits are packed behind those that are packed up to a bit.
+pub record Appends (before : List ℕ) (at left : ℕ) (bits after : List ℕ) (to rest : ℕ) : Type 0 where
+  pub is : packedBits after to rest ≡ packedBits before at left ++ bits
+  pub rest-fits : rest < 2 ^ (to % 8)
+  pub whole : AreBytes (take (at / 8) before) → AreBytes (take (to / 8) after)
+  pub long : length after ≡ length before

@@ -1,7 +1,9 @@
 // The store's profile file, read and written: fields packed bit after bit, most significant bit first.
 mod bits;
 mod frame;
+mod packing;
 mod reader;
+mod writer;
 
 use servers::Server;
 ghost use mathlib.Core.Path.{_≡_};
