@@ -5,3 +5,4 @@ pub mod Framing
 pub mod Decoding
 pub mod Readings
 pub mod Putting
+pub mod Packs

@@ -11,6 +11,9 @@ ghost use lib.ListN.{length};
 ghost use Rattle.meaning.specs.Profile.{kindIn, bytesTaken, ReadOutcome, ReadPartOutcome};
 ghost use Rattle.profiles.specs.Contracts.{Counts, readingOf, refusedReading};
 
+// The edition that is read and written.
+const EDITION: u64 = 1;
+
 // The kinds of profiles.
 pub const CURVE: u64 = 1;
 
