@@ -6,3 +6,4 @@ pub mod Decoding
 pub mod Readings
 pub mod Putting
 pub mod Packs
+pub mod Handing

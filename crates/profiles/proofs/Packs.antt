@@ -21,7 +21,7 @@ use Rattle.meaning.proofs.profile.Files.{curve-bits, server-bits}
 use Rattle.checks.specs.Contracts.{bucketOf, nth}
 use Rattle.checks.specs.declared.Bucket as held-bucket
 use Rattle.servers.proofs.Joins.{port}
-use Rattle.profiles.specs.Contracts.{packedBits, AreBytes, Fitting, FittingTwo, Appends, PackableServer, serverBytes, PackableCurve, HeadRoom, headBits, bucketBits, bitCount, curveBytes}
+use Rattle.profiles.specs.Contracts.{packedBits, AreBytes, Fitting, FittingTwo, Appends, PackableServer, serverBytes, PackableCurve, HeadRoom, headBits, bucketBits, bitCount, curveBytes, PackedCurve}
 
 -- ---- Bits behind bits.
 
@@ -259,12 +259,17 @@ module _ {l before : List ℕ} (p : PackableCurve l before) {count : ℕ} (e : c
           {after : List ℕ} {rest : ℕ}
           → Appends c (14 + 60 * count) left (bitsOf (7 - (14 + 60 * count + 7) % 8) 0) after
           (14 + 60 * count + (7 - (14 + 60 * count + 7) % 8)) rest
-          → take ((14 + 60 * count + (7 - (14 + 60 * count + 7) % 8)) / 8) after ≡ curveBytes l
+          → PackedCurve l after ((14 + 60 * count + (7 - (14 + 60 * count + 7) % 8)) / 8)
       unfolding curveBytes headBits bucketBits profileBits fields packed
       curve-packed x =
-          packed-file (curve (curveOf l)) ((14 + 60 * count + (7 - (14 + 60 * count + 7) % 8)) / 8) (7 - (14 + 60 * count + 7) % 8)
-          (omega (arith, p .room, p .few)) (omega arith) (omega (arith, curve-bits edition (curveOf l))) (omega arith)
-          (appends-both v (appends-both (rw end-is at w) x))
-          (rw e (simp append-assoc))
+          record {
+            is =
+                packed-file (curve (curveOf l)) ((14 + 60 * count + (7 - (14 + 60 * count + 7) % 8)) / 8)
+                (7 - (14 + 60 * count + 7) % 8)
+                (omega (arith, p .room, p .few)) (omega arith) (omega (arith, curve-bits edition (curveOf l))) (omega arith)
+                (appends-both v (appends-both (rw end-is at w) x))
+                (rw e (simp append-assoc));
+            few = omega (arith, p .few);
+          }
 
 pub ruleset curve-packs = (behind-head, padding-fitting, curve-packed)

@@ -8,7 +8,7 @@ use lib.ListN.{length, take}
 use Rattle.meaning.specs.Curve.{flat, curveOf}
 use Rattle.meaning.specs.Server.{Server, noServer}
 use Rattle.meaning.specs.ServerQuestions.{ServerInRange}
-use Rattle.meaning.specs.Refusal.{HEADER, LENGTH, PAD, Lines, _when_, _or_, Clear, AllInRange}
+use Rattle.meaning.specs.Refusal.{HEADER, LENGTH, PAD, Lines, _when_, _or_, Clear, AllInRange, BytesQuestion}
 use Rattle.meaning.specs.Profile.{bitsOf, packed, fileBits, edition, curveKind, serverKind, curve, server, bucketFields, written, field, bucketsIn, editionOf, kindIn, bytesTaken, padding, Reading, ReadPartOutcome}
 use Rattle.servers.specs.Contracts.{serverOf}
 use Rattle.profiles.specs.declared.Profile as held-profile
@@ -154,3 +154,14 @@ bitCount l = 14 + 60 * length (curveOf l)
 -- and its file.
 unfoldable pub curveBytes : List ℕ → List ℕ
 curveBytes l = written edition (curve (curveOf l))
+
+-- It stands at the start of the bytes, and has so many.
+pub record PackedCurve (l bytes : List ℕ) (count : ℕ) : Type 0 where
+  pub is : take count bytes ≡ curveBytes l
+  pub few : count ≤ 482
+
+-- ---- Handing over.
+
+-- Bytes that are there already, as the answer to a question that refuses nothing.
+unfoldable pub handing : List ℕ → BytesQuestion
+handing bytes = record { operands = λ _. ⊥; Answer = λ answer. answer ≡ bytes }

@@ -7,7 +7,7 @@ ghost use Prim.Native.Nat.{_+_, _<_};
 ghost use lib.ListN.{length, take};
 ghost use Rattle.meaning.specs.Profile.{bitsOf};
 ghost use Rattle.servers.specs.Contracts.{serverOf};
-ghost use Rattle.profiles.specs.Contracts.{Fitting, FittingTwo, Appends, HeadRoom, headBits, PackableServer, serverBytes, PackableCurve, bucketBits, bitCount, curveBytes};
+ghost use Rattle.profiles.specs.Contracts.{Fitting, FittingTwo, Appends, HeadRoom, headBits, PackableServer, serverBytes, PackableCurve, bucketBits, bitCount, PackedCurve};
 
 // Packs a field of `width` bits that begins at bit `at`, and answers what is left.
 fn put(bytes: &mut [u8], at: usize, left: u64, width: usize, x: u64) -> u64
@@ -84,7 +84,7 @@ fn pack_buckets(curve: &[u64], bytes: &mut [u8], left: u64) -> u64
 // Packs a curve, with zero bits up to the byte's end, and answers how many bytes it takes.
 pub(crate) fn pack_curve(curve: &[u64], bytes: &mut [u8]) -> usize
     requires { ⌜ PackableCurve (now curve) (now bytes) ⌝ }
-    ensures { λ r. ⌜ take r (now (bytes .exit)) ≡ curveBytes (now (curve .entry)) ⌝ }
+    ensures { λ r. ⌜ PackedCurve (now (curve .entry)) (now (bytes .exit)) r ⌝ }
 {
     let count = checks::bucket_count(curve);
     let head = pack_head(count, bytes);
