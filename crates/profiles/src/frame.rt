@@ -8,9 +8,6 @@ ghost use Rattle.meaning.specs.Refusal.{Verdict};
 ghost use Rattle.meaning.specs.Profile.{spelt, padding, bytesTaken};
 ghost use Rattle.profiles.specs.Contracts.{headerLine, frameLines};
 
-// The edition that is read and written.
-const EDITION: u64 = 1;
-
 // HEADER, or 0.
 fn header(file: &[u8]) -> u64
     ensures { λ r. ⌜ Verdict (headerLine (now (file .entry))) r ⌝ }
@@ -18,7 +15,7 @@ fn header(file: &[u8]) -> u64
     if file.len() == 0 {
         return limits::HEADER;
     }
-    if bits::field_at(file, 0, 4) != EDITION {
+    if bits::field_at(file, 0, 4) != crate::EDITION {
         return limits::HEADER;
     }
     let kind = crate::kind_in(file);
