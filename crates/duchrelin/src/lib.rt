@@ -2,8 +2,12 @@
 // result by value. Each function has the contract of the function that it calls, of a crate below.
 use operations::curves;
 use operations::value;
+use servers::Server;
 ghost use Rattle.meaning.specs.Refusal.{Outcome};
 ghost use Rattle.meaning.specs.CurveQuestions.{normalising, lowering, summing, shaping, ValueOutcome};
+ghost use Rattle.meaning.specs.ServerQuestions.{JoinOutcome};
+ghost use Rattle.meaning.specs.Profile.{ReadOutcome, WriteCurveOutcome, WriteServerOutcome};
+ghost use Rattle.duchrelin.specs.Contracts.{port, serverIn, readingIn};
 
 // A code, 0 for an answer, and the number of buckets, 0 for a refusal.
 #[repr(C)]
@@ -19,7 +23,32 @@ pub struct duchrelin_figure {
     pub figure: u64,
 }
 
-// The list in normal form with the same value at every non-negative fraction.
+// A code, 0 for an answer, and the server, (0, 0) for a refusal.
+#[repr(C)]
+pub struct duchrelin_server {
+    pub code: u64,
+    pub rate: u64,
+    pub latency: u64,
+}
+
+// A code, 0 for a file that is accepted, its kind, the count of buckets of a curve, and the two numbers of a server.
+#[repr(C)]
+pub struct duchrelin_profile {
+    pub code: u64,
+    pub kind: u64,
+    pub count: u64,
+    pub rate: u64,
+    pub latency: u64,
+}
+
+// A code, 0 for an answer, and the number of bytes written, 0 for a refusal.
+#[repr(C)]
+pub struct duchrelin_written {
+    pub code: u64,
+    pub bytes: u64,
+}
+
+// A raw list brought to normal form.
 #[no_mangle]
 pub extern "C" fn duchrelin_normalise(raw: &[u64], out: &mut [u64]) -> duchrelin_answer
     ensures { λ r. ⌜ Outcome (normalising (now (raw .entry))) (now (out .entry)) (now (out .exit)) (r .code) (r .count) ⌝ }
@@ -31,7 +60,7 @@ pub extern "C" fn duchrelin_normalise(raw: &[u64], out: &mut [u64]) -> duchrelin
     }
 }
 
-// The curve's value at a tick from 0 to 2^40-1.
+// What a curve gives at a tick.
 #[no_mangle]
 pub extern "C" fn duchrelin_value(curve: &[u64], tick: u64) -> duchrelin_figure
     ensures { λ r. ⌜ ValueOutcome (now (curve .entry)) tick (r .code) (r .figure) ⌝ }
@@ -43,7 +72,7 @@ pub extern "C" fn duchrelin_value(curve: &[u64], tick: u64) -> duchrelin_figure
     }
 }
 
-// Normal form of both curves' buckets together: the minimum of the two.
+// The lower of two curves.
 #[no_mangle]
 pub extern "C" fn duchrelin_lower(f: &[u64], g: &[u64], out: &mut [u64]) -> duchrelin_answer
     ensures { λ r. ⌜ Outcome (lowering (now (f .entry)) (now (g .entry))) (now (out .entry)) (now (out .exit)) (r .code) (r .count) ⌝ }
@@ -55,7 +84,7 @@ pub extern "C" fn duchrelin_lower(f: &[u64], g: &[u64], out: &mut [u64]) -> duch
     }
 }
 
-// Normal form of all buckets (r+r', b+b'), one from each curve.
+// Two curves added.
 #[no_mangle]
 pub extern "C" fn duchrelin_sum(f: &[u64], g: &[u64], out: &mut [u64]) -> duchrelin_answer
     ensures { λ r. ⌜ Outcome (summing (now (f .entry)) (now (g .entry))) (now (out .entry)) (now (out .exit)) (r .code) (r .count) ⌝ }
@@ -67,7 +96,7 @@ pub extern "C" fn duchrelin_sum(f: &[u64], g: &[u64], out: &mut [u64]) -> duchre
     }
 }
 
-// Lower of the curve and the bucket (link rate, 0).
+// A curve shaped by a link.
 #[no_mangle]
 pub extern "C" fn duchrelin_shape(
     curve: &[u64],
@@ -80,5 +109,63 @@ pub extern "C" fn duchrelin_shape(
     duchrelin_answer {
         code: answer.code,
         count: answer.count,
+    }
+}
+
+// The server that joins the next one.
+#[no_mangle]
+pub extern "C" fn duchrelin_join(rate: u64, latency: u64, next_rate: u64, next_latency: u64) -> duchrelin_server
+    ensures { λ r. ⌜ JoinOutcome (port rate latency) (port «next_rate» «next_latency») (r .code) (serverIn r) ⌝ }
+{
+    let first = Server { rate, latency };
+    let answer = first.join(Server {
+        rate: next_rate,
+        latency: next_latency,
+    });
+    let joined = answer.server;
+    duchrelin_server {
+        code: answer.code,
+        rate: joined.rate,
+        latency: joined.latency,
+    }
+}
+
+// The one profile that a file holds.
+#[no_mangle]
+pub extern "C" fn duchrelin_read(file: &[u8], out: &mut [u64]) -> duchrelin_profile
+    ensures { λ r. ⌜ ReadOutcome (now (file .entry)) (now (out .entry)) (now (out .exit)) (readingIn r) ⌝ }
+{
+    let answer = profiles::read(file, out);
+    let server = answer.server;
+    duchrelin_profile {
+        code: answer.code,
+        kind: answer.kind,
+        count: answer.count,
+        rate: server.rate,
+        latency: server.latency,
+    }
+}
+
+// A curve as a file.
+#[no_mangle]
+pub extern "C" fn duchrelin_write_curve(curve: &[u64], buffer: &mut [u8]) -> duchrelin_written
+    ensures { λ r. ⌜ WriteCurveOutcome (now (curve .entry)) (now (buffer .entry)) (now (buffer .exit)) (r .code) (r .bytes) ⌝ }
+{
+    let answer = profiles::write_curve(curve, buffer);
+    duchrelin_written {
+        code: answer.code,
+        bytes: answer.bytes,
+    }
+}
+
+// A server as a file.
+#[no_mangle]
+pub extern "C" fn duchrelin_write_server(rate: u64, latency: u64, buffer: &mut [u8]) -> duchrelin_written
+    ensures { λ r. ⌜ WriteServerOutcome (port rate latency) (now (buffer .entry)) (now (buffer .exit)) (r .code) (r .bytes) ⌝ }
+{
+    let answer = profiles::write_server(Server { rate, latency }, buffer);
+    duchrelin_written {
+        code: answer.code,
+        bytes: answer.bytes,
     }
 }
