@@ -57,9 +57,11 @@ table =
       p12 = (
         standing-ends
             (written-hop {s = port 5 2}
-            (written-hop {s = port 6 4} (written-start c-sound _) (lit≤ tt) (passes c-sound c32 (omega arith) (lit≤ tt) (λ r h. h) c-first))
+            (written-hop {s = port 6 4} (written-start c-sound _) (lit≤ tt)
+            (passes c-sound c32 (omega arith) (lit≤ tt) (λ r h. h) c-first))
             (lit≤ tt)
-            (passes c32 (one-bucket 3 38 (omega arith)) (omega arith) (lit≤ tt) (join-clear (omega arith) (omega arith) (omega arith)) second))
+            (passes c32 (one-bucket 3 38 (omega arith)) (omega arith) (lit≤ tt)
+            (join-clear (omega arith) (omega arith) (omega arith)) second))
             _ (record { backlog-is = c-joined .1; delay-is = c-joined .2 }),
         refl,
       );

@@ -82,7 +82,8 @@ module _ (input : List ℕ) where
 -- ---- Joining.
 
 -- the code of joining is that of its lines
-pub join-code : (s next : Server) {code : ℕ} (joined : Server) → JoinOutcome s next code joined → Verdict (joinLines (some s) next) code
+pub join-code :
+    (s next : Server) {code : ℕ} (joined : Server) → JoinOutcome s next code joined → Verdict (joinLines (some s) next) code
 unfolding JoinOutcome
 join-code s next joined (ServerOutcome.refused v e) = rejected (v .why) (v .wins) (v .code-is)
 join-code s next joined (ServerOutcome.answered clear e x) = accepted clear e
@@ -93,9 +94,12 @@ pub data JoinedTo : Option Server → Server → Server → Type 0 where
   answers : {before s joined : Server} → JoinOutcome before s 0 joined → JoinedTo (some before) s joined
 
 -- no line of joining holds then, and it is the joined server
-joined-to : {before : Option Server} {s joined : Server} → JoinedTo before s joined → Clear (joinLines before s) × (joined ≡ joinedWith before s)
+joined-to :
+    {before : Option Server} {s joined : Server} → JoinedTo before s joined
+    → Clear (joinLines before s) × (joined ≡ joinedWith before s)
 joined-to alone = (λ r h. h, refl)
-joined-to (answers {before = before} {s = s} {joined = joined} o) = (code-zero (join-code before s joined o) .0 refl, answered-join before s o .definition)
+joined-to (answers {before = before} {s = s} {joined = joined} o) =
+    (code-zero (join-code before s joined o) .0 refl, answered-join before s o .definition)
 
 -- ---- A list with room for 64 buckets.
 
@@ -130,8 +134,8 @@ roomy {ask} {before} {after} {code} {count} (Outcome.refused v) room = by-line (
 -- ---- At a server.
 
 module _
-    {input first printed : List ℕ} {n : ℕ} {joined : Option Server} {f : List ℕ} {at : ℕ} (go : Going input first printed n joined f at)
-    (short : n < 32) (due : ServerDue input at joined)
+    {input first printed : List ℕ} {n : ℕ} {joined : Option Server} {f : List ℕ} {at : ℕ}
+    (go : Going input first printed n joined f at) (short : n < 32) (due : ServerDue input at joined)
   where
     -- the reader's code: a curve there, bytes that are missing, a server out of range
     pub read-refused :
@@ -147,7 +151,8 @@ module _
           {code : ℕ} → Verdict (portLines f (serverAt input at)) code → code ≢ 0 → Route input (refusedText code (n + 2))
       port-refused v nonzero =
           going-stops go short due
-          (port-decides (curveOf f) joined (drop at input) read (sofar-in-range (curveOf first) (go .hops) joined (curveOf f) (go .sofar))
+          (port-decides (curveOf f) joined (drop at input) read
+          (sofar-in-range (curveOf first) (go .hops) joined (curveOf f) (go .sofar))
           (rw (go .list-is) v) nonzero)
           nonzero
 

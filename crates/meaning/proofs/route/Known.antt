@@ -55,7 +55,8 @@ module _ {f : List Bucket} (c : Sound f) where
 
   -- a curve's file cut short
   pub curve-cut :
-      (k : ℕ) → 1 ≤ k → k < length (written edition (curve f)) → OnlyText (take k (written edition (curve f))) (bytes "refused 2 at 1\n")
+      (k : ℕ) → 1 ≤ k → k < length (written edition (curve f))
+      → OnlyText (take k (written edition (curve f))) (bytes "refused 2 at 1\n")
   curve-cut k begun short =
       let back = sound-reads c in
       cut-curve (written edition (curve f)) (back .clear) (kind-of-curve (written edition (curve f)) (back .same)) k begun short
@@ -76,15 +77,16 @@ module _ {f : List Bucket} (c : Sound f) where
       (s : Server) → ServerInRange s → s .rate < last f .rate → (rest : List ℕ)
       → OnlyText (written edition (curve f) ++ (written edition (server s) ++ rest)) (bytes "refused 8 at 2\n")
   unfolding refusedText numbers digits bytes
-  too-slow s ranged above rest = last-rate-above s rest (written-start c (written edition (server s) ++ rest)) (lit≤ tt) c ranged tt above
+  too-slow s ranged above rest =
+      last-rate-above s rest (written-start c (written edition (server s) ++ rest)) (lit≤ tt) c ranged tt above
 
   -- a server of rate 0, whatever stands behind it
   pub rate-nothing : (rest : List ℕ) → OnlyText (written edition (curve f) ++ (idle-file ++ rest)) (bytes "refused 6 at 2\n")
   unfolding refusedText numbers digits bytes
   rate-nothing rest =
       let kind : kindIn idle-file ≢ curveKind = λ e. omega (arith, kind-byte 0x12 (drop 1 idle-file)) in
-      refused-server-file idle-file rest (written-start c (idle-file ++ rest)) (lit≤ tt) c kind (sym (server-taken idle-file kind)) {code = 6}
-      (refused-lines rate-0) (λ e. omega arith)
+      refused-server-file idle-file rest (written-start c (idle-file ++ rest)) (lit≤ tt) c kind
+      (sym (server-taken idle-file kind)) {code = 6} (refused-lines rate-0) (λ e. omega arith)
 
 -- ---- The curve.
 
@@ -149,7 +151,9 @@ idle zero hops = hops
 idle (suc n) hops = idle n (hops ++ record { backlog = 0; delay = 0 } ∷ [])
 
 -- The curve {(0,0)} carries nothing and stays as it is: each hop is passed,
-still-passes : {before : Option Server} → Clear (joinLines before (port 1 0)) → Passes (buckets (0 ∷ 0 ∷ [])) before (port 1 0) (record { backlog = 0; delay = 0 }) (buckets (0 ∷ 0 ∷ []))
+still-passes :
+    {before : Option Server} → Clear (joinLines before (port 1 0))
+    → Passes (buckets (0 ∷ 0 ∷ [])) before (port 1 0) (record { backlog = 0; delay = 0 }) (buckets (0 ∷ 0 ∷ []))
 unfolding buckets normal behind backlog delay reads valueAt last
 still-passes joins =
     let f = one-bucket 0 0 (omega arith) in
@@ -224,7 +228,8 @@ twice-outcome =
 -- The first hop of P12 is answered, and then a server has rate 0: only the refusal is printed, whatever stands behind it.
 pub second-refused :
     (rest : List ℕ)
-    → OnlyText (written edition (curve C) ++ (written edition (server (port 6 4)) ++ (idle-file ++ rest))) (bytes "refused 6 at 3\n")
+    → OnlyText (written edition (curve C) ++ (written edition (server (port 6 4)) ++ (idle-file ++ rest)))
+    (bytes "refused 6 at 3\n")
 unfolding refusedText numbers digits bytes buckets normal behind backlog delay reads valueAt last
 second-refused rest =
     let kind : kindIn idle-file ≢ curveKind = λ e. omega (arith, kind-byte 0x12 (drop 1 idle-file)) in

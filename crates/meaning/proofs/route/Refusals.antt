@@ -59,7 +59,8 @@ module _ (file : List ℕ) (clear : Clear (fileLines file)) (k : ℕ) (begun : 1
   part-refused : Verdict (fileLines (firstFile (take k file))) 2
   part-refused =
       rw (first-cut (take k file) (drop k file) (clear-whole (take k file ++ drop k file) (rw both clear)))
-      (cut-short (take k file) (drop k file) (rw both clear) (omega (arith, length-take k file)) (omega (arith, length-drop k file)))
+      (cut-short (take k file) (drop k file) (rw both clear)
+      (omega (arith, length-take k file)) (omega (arith, length-drop k file)))
 
   -- and has the file's kind
   part-kind : kindIn (take k file) ≡ kindIn file
@@ -77,8 +78,8 @@ cut-curve file clear kind k begun short =
 
 -- A curve's file that its own lines refuse, whatever stands behind it.
 pub refused-curve-file :
-    (file rest : List ℕ) {code : ℕ} → kindIn file ≡ curveKind → length file ≡ bytesTaken file → Verdict (fileLines file) code → code ≢ 0
-    → OnlyText (file ++ rest) (refusedText code 1)
+    (file rest : List ℕ) {code : ℕ} → kindIn file ≡ curveKind → length file ≡ bytesTaken file → Verdict (fileLines file) code
+    → code ≢ 0 → OnlyText (file ++ rest) (refusedText code 1)
 refused-curve-file file rest kind whole v nonzero =
     refused-at-1 (file ++ rest)
     (curve-file-decides (file ++ rest) (rw (first-whole file rest whole) v) (kind-append file rest (omega arith) ∙ kind))
@@ -117,7 +118,8 @@ module _
 
 -- A server's file cut short.
 pub cut-server :
-    {input : List ℕ} {first : List Bucket} {hops : List Figures} {joined : Option Server} {f : List Bucket} (file : List ℕ) (k : ℕ)
+    {input : List ℕ} {first : List Bucket} {hops : List Figures} {joined : Option Server} {f : List Bucket}
+    (file : List ℕ) (k : ℕ)
     → Standing input first hops joined f (take k file) → length hops < 32 → Sound f → Clear (fileLines file)
     → kindIn file ≢ curveKind → 1 ≤ k → k < length file → OnlyText input (refusedText 2 (length hops + 2))
 cut-server file k here early c clear kind begun short =
@@ -142,8 +144,8 @@ refused-server-file file rest here short c kind whole v nonzero =
 
 -- A server in range stands there, whatever stands behind it; the curve from the hop before is sound.
 module _
-    {input : List ℕ} {first : List Bucket} {hops : List Figures} {joined : Option Server} {f : List Bucket} (s : Server) (rest : List ℕ)
-    (here : Standing input first hops joined f (written edition (server s) ++ rest)) (short : length hops < 32)
+    {input : List ℕ} {first : List Bucket} {hops : List Figures} {joined : Option Server} {f : List Bucket}
+    (s : Server) (rest : List ℕ) (here : Standing input first hops joined f (written edition (server s) ++ rest)) (short : length hops < 32)
     (c : Sound f) (ranged : ServerInRange s)
   where
     -- it is read,
@@ -193,6 +195,7 @@ joined-out-of-range {before = before} {f = f} s rest here short c ranged slow ea
     (join-decides f (some before) (written edition (server s) ++ rest) (read s rest here short c ranged)
     (rw (holds s rest here short c ranged) (port-clear c ranged slow))
     (rw (holds s rest here short c ranged)
-    (refused-then (accepted (clear-or (λ r h. h .1 earlier) (λ r h. h .1 ranged)) refl) (line-hit LARGE (join before s, refl, out))))
+    (refused-then (accepted (clear-or (λ r h. h .1 earlier) (λ r h. h .1 ranged)) refl)
+    (line-hit LARGE (join before s, refl, out))))
     (λ e. omega arith))
     (λ e. omega arith)

@@ -1,4 +1,5 @@
--- Wrong reports that the contract shuts out: each theorem takes what a slip would print and finds that it is no output of its input.
+-- Wrong reports that the contract shuts out: each theorem takes what a slip would print, and finds that it is no output of its
+-- input.
 -- Assumes nothing.
 use mathlib.Core.Path.{ap}
 use mathlib.Core.Logic.{_≢_}
@@ -52,12 +53,14 @@ delays-added = other-byte twice-outcome 28 (λ e. omega arith)
 -- ---- Refusals.
 
 -- a refusal of a later profile named before an earlier one: the server of rate 0 is the second profile, whatever the third is
-pub later-refusal-first : (rest : List ℕ) → Route (written edition (curve C) ++ (idle-file ++ rest)) (bytes "refused 1 at 3\n") → ⊥
+pub later-refusal-first :
+    (rest : List ℕ) → Route (written edition (curve C) ++ (idle-file ++ rest)) (bytes "refused 1 at 3\n") → ⊥
 unfolding bytes
 later-refusal-first rest = other-byte (rate-nothing c-sound rest) 8 (λ e. omega arith)
 
 -- a larger number named before a smaller one at one server: UNBOUNDED before RANGE,
-pub unbounded-before-range : (rest : List ℕ) → Route (written edition (curve C) ++ (idle-file ++ rest)) (bytes "refused 8 at 2\n") → ⊥
+pub unbounded-before-range :
+    (rest : List ℕ) → Route (written edition (curve C) ++ (idle-file ++ rest)) (bytes "refused 8 at 2\n") → ⊥
 unfolding bytes
 unbounded-before-range rest = other-byte (rate-nothing c-sound rest) 8 (λ e. omega arith)
 

@@ -1,6 +1,6 @@
 -- The text of a report. Every number in it is below 2^64, so that it stands there as its decimal. No text has more than 1,145
--- bytes: 32 hop lines, 9 of at most 34 bytes and 23 of at most 35, and a route line of at most 34. The text line by line, and what
--- every output says.
+-- bytes: 32 hop lines, 9 of at most 34 bytes and 23 of at most 35, and a route line of at most 34. The text line by line, and
+-- what every output says.
 -- Assumes nothing.
 use mathlib.Core.Path.{_≡_, refl, sym, _∙_, ap, subst}
 use mathlib.Core.Logic.{inl, inr}
@@ -69,9 +69,12 @@ small-length : (n : ℕ) → n < 2 ^ 41 → length (digits 20 n) ≤ 13
 small-length n h = digits-length 20 n 13 (lit≤ tt) (lt-of-lt-of-le h (lit≤ tt))
 
 -- both figures stand in the text as their decimals,
-pub figures-decimal : (x : Figures) → Small x → Decimal (x .backlog) (digits 20 (x .backlog)) × Decimal (x .delay) (digits 20 (x .delay))
-figures-decimal x h =
-    (decimal (x .backlog) (lt-of-lt-of-le (h .backlog-small) (lit≤ tt)), decimal (x .delay) (lt-of-lt-of-le (h .delay-small) (lit≤ tt)))
+pub figures-decimal :
+    (x : Figures) → Small x → Decimal (x .backlog) (digits 20 (x .backlog)) × Decimal (x .delay) (digits 20 (x .delay))
+figures-decimal x h = (
+  decimal (x .backlog) (lt-of-lt-of-le (h .backlog-small) (lit≤ tt)),
+  decimal (x .delay) (lt-of-lt-of-le (h .delay-small) (lit≤ tt)),
+)
 
 -- and have at most 28 bytes with the spaces before them
 figures-length : (x : Figures) → Small x → length (numbers (x .backlog ∷ x .delay ∷ [])) ≤ 28
@@ -145,7 +148,8 @@ route-length r = omega (arith, ap length (r .output-is), text-length (r .report)
 -- ---- Line by line.
 
 -- one hop more is one line more,
-pub hop-texts-more : (n : ℕ) (l : List Figures) (x : Figures) → hopTexts n (l ++ x ∷ []) ≡ hopTexts n l ++ hopText (n + length l) x
+pub hop-texts-more :
+    (n : ℕ) (l : List Figures) (x : Figures) → hopTexts n (l ++ x ∷ []) ≡ hopTexts n l ++ hopText (n + length l) x
 unfolding hopTexts
 hop-texts-more n [] x = rw add-zero (append-nil (hopText n x))
 hop-texts-more n (y ∷ l) x =
@@ -173,7 +177,8 @@ at-word = refl
 -- each line is its word and its numbers' decimals, a space between: a hop's line,
 pub hop-text-is :
     (n : ℕ) (x : Figures)
-    → hopText n x ≡ bytes "hop " ++ digits 20 n ++ bytes " " ++ digits 20 (x .backlog) ++ bytes " " ++ digits 20 (x .delay) ++ bytes "\n"
+    → hopText n x
+    ≡ bytes "hop " ++ digits 20 n ++ bytes " " ++ digits 20 (x .backlog) ++ bytes " " ++ digits 20 (x .delay) ++ bytes "\n"
 unfolding hopText numbers
 hop-text-is n x = rw hop-word (simp (append-assoc, append-nil))
 
@@ -225,7 +230,8 @@ digits-text (c ∷ l) h = (omega (arith, h .1), digits-text l (h .2))
 numbers-text : (l : List ℕ) → AllText (numbers l)
 unfolding numbers bytes
 numbers-text [] = tt
-numbers-text (n ∷ l) = (omega arith, text-append (digits 20 n) (numbers l) (digits-text (digits 20 n) (digits-each 20 n)) (numbers-text l))
+numbers-text (n ∷ l) =
+    (omega arith, text-append (digits 20 n) (numbers l) (digits-text (digits 20 n) (digits-each 20 n)) (numbers-text l))
 
 -- a word with numbers behind it is,
 line-text : (word l : List ℕ) → AllText word → AllText (word ++ numbers l ++ bytes "\n")

@@ -96,7 +96,8 @@ due-low input {r} w = by-profile (profileOf input) refl
     by-profile (server s) e =
         up-to-or (up-to-when HEADER (lit≤ tt))
         (up-to-or (up-to-or (up-to-or (up-to-when HEADER (lit≤ tt)) (up-to-when LENGTH (lit≤ tt))) (up-to-when PAD (lit≤ tt)))
-        (subst (λ (p : Profile). UpTo 6 (profileLines p)) (sym (same-start input .profile-same ∙ e)) (up-to-when RANGE (lit≤ tt))))
+        (subst (λ (p : Profile). UpTo 6 (profileLines p)) (sym (same-start input .profile-same ∙ e))
+        (up-to-when RANGE (lit≤ tt))))
         r (w .holds)
 
 -- ---- At a server.
@@ -131,7 +132,8 @@ module _ (f : List Bucket) (joined : Option Server) (rest : List ℕ) where
   module _ (read : Clear (dueLines IsServer rest)) where
     -- the lines of the curve with it come next,
     pub port-decides :
-        {code : ℕ} → JoinedInRange joined → Verdict (portLines (listOf f) s) code → code ≢ 0 → Verdict (hopLines f joined rest) code
+        {code : ℕ} → JoinedInRange joined → Verdict (portLines (listOf f) s) code → code ≢ 0
+        → Verdict (hopLines f joined rest) code
     unfolding number
     port-decides before (accepted clear e) nonzero = absurd (nonzero e)
     port-decides before (rejected r w e) nonzero =
@@ -144,7 +146,8 @@ module _ (f : List Bucket) (joined : Option Server) (rest : List ℕ) where
 
     -- then those of joining it with those before it,
     pub join-decides :
-        {code : ℕ} → Clear (portLines (listOf f) s) → Verdict (joinLines joined s) code → code ≢ 0 → Verdict (hopLines f joined rest) code
+        {code : ℕ} → Clear (portLines (listOf f) s) → Verdict (joinLines joined s) code → code ≢ 0
+        → Verdict (hopLines f joined rest) code
     unfolding number
     join-decides port (accepted clear e) nonzero = absurd (nonzero e)
     join-decides port (rejected r w e) nonzero =
@@ -167,5 +170,6 @@ module _ (f : List Bucket) (joined : Option Server) (rest : List ℕ) where
         smallest : From (number r) (hopLines f joined rest)
         smallest =
             from-or
-            (from-or (from-or (λ line h. absurd (read line h)) (λ line h. w .smallest line (inl h))) (λ line h. absurd (joins line h)))
+            (from-or (from-or (λ line h. absurd (read line h)) (λ line h. w .smallest line (inl h)))
+            (λ line h. absurd (joins line h)))
             (λ line h. w .smallest line (inr h))
