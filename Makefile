@@ -3,6 +3,7 @@
 #   make                                   the archive, the program route and the screen; needs rt and a C compiler
 #   make install PREFIX=/usr DESTDIR=...   headers, archive, programs, pkg-config file and man pages
 #   make uninstall PREFIX=... DESTDIR=...  takes exactly those away again; folders stay
+#   make sample                            a route over three profiles of the sample store
 #   make check                             the gate
 #
 # What is built already is not built again, so `make install` may run as another user than `make`.
@@ -36,9 +37,8 @@ $(archive): $(proved)
 	$(RT) staticlib duchrelin
 
 # After the archive and not beside it: two checks at once would only wait for each other.
-$(route): $(proved) | $(archive)
-	$(RT) check route
-	test -x $@ && touch $@
+$(route): $(proved) programs/route.c programs/build | $(archive)
+	RT=$(RT) CC=$(CC) programs/build
 
 $(screen): $(wildcard examples/screen/*.c examples/screen/*.h) $(headers) $(archive) Makefile
 	mkdir -p $(@D)
@@ -66,11 +66,14 @@ install: all
 uninstall:
 	rm -f $(foreach file,$(installed),"$(DESTDIR)$(file)")
 
+sample: $(route)
+	@cat examples/store/meter.profile examples/store/spur-coupler.profile examples/store/spur-gateway.profile | $(route)
+
 check:
 	.ci/run
 
 clean:
 	rm -rf target/screen
 
-.PHONY: all install uninstall check clean
+.PHONY: all install uninstall sample check clean
 .DELETE_ON_ERROR:
