@@ -36,8 +36,8 @@ $(archive): $(proved)
 	rm -f $@
 	$(RT) staticlib duchrelin
 
-# After the archive and not beside it: two checks at once would only wait for each other.
-$(route): $(proved) programs/route.c programs/build | $(archive)
+# (One check at a time: two at once would only wait for each other.)
+$(route): $(proved) programs/route.c programs/build
 	RT=$(RT) CC=$(CC) programs/build
 
 $(screen): $(wildcard examples/screen/*.c examples/screen/*.h) $(headers) $(archive) Makefile
@@ -76,4 +76,5 @@ clean:
 	rm -rf target/screen
 
 .PHONY: all install uninstall sample check clean
+.NOTPARALLEL:
 .DELETE_ON_ERROR:

@@ -1,5 +1,5 @@
--- The profile file: fields packed bit after bit, most significant bit first. What is written, what a file holds, and what the
--- reader and the writer answer. A bit is the number 0 or 1; a byte is a number below 256.
+-- The profile file, to the bit: what is written, what a file holds, and what the reader and the writer answer. (docs/SCOPE.md,
+-- "The profile file".) A bit is the number 0 or 1; a byte is a number below 256.
 -- Assumes nothing.
 use mathlib.Core.Path.{_≡_}
 use mathlib.Core.Bool.{Bool, true, false}
@@ -28,7 +28,7 @@ spelt (b ∷ l) = b * 2 ^ length l + spelt l
 pub data Field : Type 0 where
   _bits_ : ℕ → ℕ → Field
 
--- Fields packed bit after bit.
+-- Fields one behind the other, without gaps.
 unfoldable pub packed : List Field → List ℕ
 packed [] = []
 packed (width bits x ∷ l) = bitsOf width x ++ packed l
@@ -42,15 +42,15 @@ unfoldable pub bytesOf : ℕ → List ℕ → List ℕ
 bytesOf zero l = []
 bytesOf (suc n) l = spelt (take 8 l) ∷ bytesOf n (drop 8 l)
 
--- Edition (1).
+-- The one edition.
 abbrev pub edition : ℕ
 edition = 1
 
--- Kind 1, curve.
+-- The kind of a curve,
 abbrev pub curveKind : ℕ
 curveKind = 1
 
--- Kind 2, server.
+-- and that of a server.
 abbrev pub serverKind : ℕ
 serverKind = 2
 
@@ -64,7 +64,7 @@ abbrev pub kindOf : Profile → ℕ
 kindOf (curve f) = curveKind
 kindOf (server s) = serverKind
 
--- For each bucket 20 bits rate and 40 bits burst.
+-- A bucket's two fields, and the next one's.
 unfoldable pub bucketFields : List Bucket → List Field
 bucketFields [] = []
 bucketFields (k ∷ f) = 20 bits k .rate ∷ 40 bits k .burst ∷ bucketFields f
@@ -126,8 +126,7 @@ abbrev pub profileLines : Profile → Lines
 profileLines (curve f) = RANGE when (AllInRange f → ⊥) or FORM when (NormalForm f → ⊥)
 profileLines (server s) = serverLines s
 
--- File empty, edition not 1, kind not 1 or 2; byte count is not what kind and count require, or a curve file has one byte;
--- a padding bit is 1; the lines of the profile that it holds.
+-- All that can be refused of a file: what it begins with, how long it is, how it is filled up, and the profile in it.
 abbrev pub fileLines : List ℕ → Lines
 fileLines file =
     HEADER when ((length file ≡ 0) ⊎ (editionOf file ≢ edition) ⊎ ((kindIn file ≢ curveKind) × (kindIn file ≢ serverKind)))
@@ -156,7 +155,7 @@ pub record Reading : Type 0 where
   pub count : ℕ
   pub server : Server
 
--- The kind and the two server numbers (0 for a curve) of a file that is accepted; 0 for each of a file that is refused.
+-- Of an accepted file its kind and server are told, of a refused one neither.
 pub record Told (file : List ℕ) (x : Reading) : Type 0 where
   pub accepted : x .code ≡ 0 → (x .kind ≡ kindOf (profileOf file)) × (x .server ≡ serverIn (profileOf file))
   pub refused : x .code ≢ 0 → (x .kind ≡ 0) × (x .server ≡ noServer)

@@ -16,7 +16,7 @@ use Rattle.meaning.specs.Refusal.{Refusal, HEADER, COUNT, LARGE, number,
 use Rattle.meaning.specs.ServerQuestions.{serverLines, portLines, withLarge}
 use Rattle.meaning.specs.Profile.{Profile, curve, server, profileOf, bytesTaken, fileLines, bucketsOf, serverIn}
 
--- Profiles stand back to back, each taking the bytes its header requires.
+-- The first profile of an input: as many bytes as its own header asks for.
 unfoldable pub firstFile : List ℕ → List ℕ
 firstFile input = take (bytesTaken input) input
 
@@ -34,8 +34,7 @@ abbrev pub IsServer : Profile → Type 0
 IsServer (curve f) = ⊥
 IsServer (server s) = Unit {0}
 
--- Where a curve or a server is due: a curve where a server is due, or the reverse, is 1, and so is input that ends there; one
--- cut short is 2.
+-- Where one of the two is due: the other, or nothing, is HEADER; what the input cuts short is LENGTH, as of any file.
 abbrev pub dueLines : (Profile → Type 0) → List ℕ → Lines
 dueLines Due input = HEADER when (Due (profileOf input) → ⊥) or fileLines (firstFile input)
 
@@ -49,7 +48,7 @@ abbrev pub joinedWith : Option Server → Server → Server
 joinedWith none s = s
 joinedWith (some before) s = join before s
 
--- At each server, reading, joining with those before it, backlog, delay and behind all count.
+-- All that can be refused at a server: its reading, the curve with it, joining it, the curve behind it.
 abbrev pub hopLines : List Bucket → Option Server → List ℕ → Lines
 hopLines f before input =
     dueLines IsServer input or portLines (listOf f) s or joinLines before s
@@ -80,7 +79,7 @@ pub data Onward (first : List Bucket) : List Figures → Option Server → List 
   ends :
       {hops : List Figures} {joined : Server} {f : List Bucket} (route : Figures)
       → FiguresOf first joined route → Onward first hops (some joined) f [] (passed hops route)
-  -- Bytes after 32 servers are 5 at 34.
+  -- 32 servers are passed, and there is more.
   bytes-left :
       {hops : List Figures} {before : Option Server} {f : List Bucket} {input : List ℕ}
       → length hops ≡ 32 → input ≢ [] → Onward first hops before f input (refusedAt COUNT 34)
@@ -97,7 +96,7 @@ pub data Onward (first : List Bucket) : List Figures → Option Server → List 
       → Onward first (hops ++ here ∷ []) (some (joinedWith before (serverIn (profileOf input)))) g (afterFirst input) report
       → Onward first hops before f input report
 
--- One curve profile, then 1 to 32 server profiles. The earliest profile refused is the one named.
+-- The curve comes first: it is refused, or the servers follow.
 pub data Reported (input : List ℕ) (report : Report) : Type 0 where
   no-curve : (r : Refusal) → Wins (dueLines IsCurve input) r → report ≡ refusedAt r 1 → Reported input report
   from-curve :
@@ -120,11 +119,11 @@ unfoldable pub numbers : List ℕ → List ℕ
 numbers [] = []
 numbers (n ∷ l) = bytes " " ++ digits 20 n ++ numbers l
 
--- `hop N X Y`: hop number, backlog, delay there
+-- A hop's line: its number and its figures.
 unfoldable pub hopText : ℕ → Figures → List ℕ
 hopText n x = bytes "hop" ++ numbers (n ∷ x .backlog ∷ x .delay ∷ []) ++ bytes "\n"
 
--- `route X Y`
+-- The route's line.
 unfoldable pub routeText : Figures → List ℕ
 routeText x = bytes "route" ++ numbers (x .backlog ∷ x .delay ∷ []) ++ bytes "\n"
 

@@ -25,7 +25,7 @@ fn curve_and_link(f: &[u64], rate: u64) -> u64
     checks::earlier(checks::curve(f), checks::link(rate))
 }
 
-// The list in normal form with the same value at every non-negative fraction.
+// A raw list brought to normal form.
 pub fn normalise_in(raw: &[u64], table: &mut [u64], at: usize, room: usize) -> Answer
     ensures { λ r. ⌜ PartOutcome (normalising (now (raw .entry))) at room (now (table .entry)) (now (table .exit)) (r .code) (r .count) ⌝ }
 {
@@ -54,7 +54,7 @@ fn together(f: &[u64], g: &[u64], table: &mut [u64], at: usize, room: usize) -> 
     settle(&both[..end], table, at, room)
 }
 
-// Normal form of both curves' buckets together: the minimum of the two.
+// The lower of two curves: all their buckets, in normal form.
 pub fn lower_in(f: &[u64], g: &[u64], table: &mut [u64], at: usize, room: usize) -> Answer
     ensures { λ r. ⌜ PartOutcome (lowering (now (f .entry)) (now (g .entry))) at room (now (table .entry)) (now (table .exit)) (r .code) (r .count) ⌝ }
 {
@@ -73,7 +73,7 @@ pub fn lower(f: &[u64], g: &[u64], out: &mut [u64]) -> Answer
     lower_in(f, g, out, 0, room)
 }
 
-// The normal form of all buckets (r + r', b + b'), one from each list.
+// The normal form of the buckets of two lists, added each to each.
 fn paired(f: &[u64], g: &[u64], table: &mut [u64], at: usize, room: usize) -> Answer
     requires { ⌜ AllInRange (buckets (now f)) ⌝ }
     requires { ⌜ AllInRange (buckets (now g)) ⌝ }
@@ -87,7 +87,7 @@ fn paired(f: &[u64], g: &[u64], table: &mut [u64], at: usize, room: usize) -> An
     settle(&raw[..end], table, at, room)
 }
 
-// Normal form of all buckets (r + r', b + b'), one from each curve: the sum of the two.
+// Two curves added: their buckets, each to each, in normal form.
 pub fn sum_in(f: &[u64], g: &[u64], table: &mut [u64], at: usize, room: usize) -> Answer
     ensures { λ r. ⌜ PartOutcome (summing (now (f .entry)) (now (g .entry))) at room (now (table .entry)) (now (table .exit)) (r .code) (r .count) ⌝ }
 {
@@ -106,7 +106,7 @@ pub fn sum(f: &[u64], g: &[u64], out: &mut [u64]) -> Answer
     sum_in(f, g, out, 0, room)
 }
 
-// Lower of the curve and the bucket (link rate, 0).
+// The curve held down by a link's bucket.
 pub fn shape_in(f: &[u64], rate: u64, table: &mut [u64], at: usize, room: usize) -> Answer
     ensures { λ r. ⌜ PartOutcome (shaping (now (f .entry)) rate) at room (now (table .entry)) (now (table .exit)) (r .code) (r .count) ⌝ }
 {

@@ -90,8 +90,8 @@ fn add_row(rate: u64, burst: u64, curve: &[u64], out: &mut [u64])
     }
 }
 
-// All buckets (r + r', b + b'), one from each curve, written to the start of a list, a row for each bucket of the first. Answers
-// the place after them.
+// The buckets of two curves, added each to each, written to the start of a list, a row for each bucket of the first. Answers the
+// place after them.
 pub(crate) fn add_pairs(f: &[u64], g: &[u64], out: &mut [u64]) -> usize
     requires { ⌜ AllInRange (buckets (now f)) ⌝ }
     requires { ⌜ AllInRange (buckets (now g)) ⌝ }

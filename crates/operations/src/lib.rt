@@ -1,7 +1,7 @@
-// The operations on curves and servers, on flat lists of 64-bit numbers. Every public function takes any list and any numbers,
-// always ends, and refuses what breaks a rule with the smallest number of the table that applies. A curve answer is written
-// from the start of a lent list, or of a part of a larger table: the `room` numbers from `at`, as far as the table has them. What
-// lies beyond the answer stays, and on a refusal everything does.
+// The operations on curves and servers, over flat lists of 64-bit numbers. No public function asks anything of its operands; each
+// refuses what it cannot take, with the number that wins. A curve goes to the start of a lent list, or of a part of a larger
+// table: the `room` numbers from `at`, as far as the table has them. What lies beyond it stays, and on a refusal everything
+// does.
 pub mod curves;
 mod gather;
 pub mod value;

@@ -34,7 +34,7 @@ pub(crate) fn least(curve: &[u64], tick: u64) -> u64
     found
 }
 
-// The curve's value at a tick from 0 to 2^40-1.
+// What a curve gives at a tick.
 pub fn value(curve: &[u64], tick: u64) -> Figure
     ensures { λ r. ⌜ ValueOutcome (now (curve .entry)) tick (r .code) (r .figure) ⌝ }
 {
