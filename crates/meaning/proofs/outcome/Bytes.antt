@@ -17,6 +17,7 @@ use Rattle.meaning.proofs.outcome.Answers.{wins-code}
 
 -- ---- One outcome.
 
+-- what is written is written once
 filled-once :
     {ask : BytesQuestion} {before after after′ : List ℕ} {code count code′ count′ : ℕ}
     → Single (ask .Answer) → Filled ask before after code count → Filled ask before after′ code′ count′
@@ -156,6 +157,7 @@ pub record FilledBytes (ask : BytesQuestion) (before after : List ℕ) (count : 
   pub written : after ≡ over bytes before
   pub beyond : drop count after ≡ drop count before
 
+-- such is what is written
 read-filled :
     {ask : BytesQuestion} {before after : List ℕ} {code count : ℕ} → Filled ask before after code count
     → FilledBytes ask before after count (take count after)

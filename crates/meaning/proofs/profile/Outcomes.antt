@@ -126,6 +126,7 @@ readAs p = record { code = 0; kind = kindOf p; count = length (bucketsOf p); ser
 abbrev pub refusedAs : ℕ → Reading
 refusedAs code = record { code = code; kind = 0; count = 0; server = noServer }
 
+-- that is what a refusal tells
 told-refused : (file : List ℕ) {code : ℕ} → 1 ≤ code → Told file (refusedAs code)
 told-refused file some = record { accepted = λ e. absurd (omega arith); refused = λ _. (refl, refl) }
 

@@ -59,6 +59,7 @@ module _ (file : List ℕ) (header : RightHeader file) where
       (refused-then (line-miss (no-header file header)) (line-hit LENGTH (inl h))))
 
   module _ (whole : length file ≡ bytesTaken file) where
+    -- where header and length are right neither refuses
     framed : Verdict
         (HEADER when ((length file ≡ 0) ⊎ (editionOf file ≢ edition) ⊎ ((kindIn file ≢ curveKind) × (kindIn file ≢ serverKind)))
         or LENGTH when ((length file ≢ bytesTaken file) ⊎ ((kindIn file ≡ curveKind) × (length file ≡ 1)))) 0
@@ -161,6 +162,7 @@ module _ (l : List ℕ) where
 
   -- A list that comes out even, with a bucket:
   module _ (even : length l % width ≡ 0) (some : 1 ≤ length (curveOf l)) where
+    -- (LIST does not hold of it)
     no-list : Uneven width l → ⊥
     no-list (inl none) = omega (arith, curve-use l)
     no-list (inr uneven) = uneven even
