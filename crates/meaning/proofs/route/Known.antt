@@ -195,25 +195,27 @@ module _
 
 -- ---- The longest text.
 
--- The curve {(0, 2^40-1)} and 32 servers (1,0): each backlog and delay is 2^40-1.
+-- 2^40-1, the greatest burst.
 abbrev pub most : ℕ
 most = 1099511627775
 
+-- The curve {(0, 2^40-1)} and 32 servers (1,0),
 abbrev pub longest-input : List ℕ
 longest-input = written edition (curve (buckets (0 ∷ most ∷ []))) ++ servers 32 []
 
+-- where each backlog and each delay is 2^40-1:
 abbrev pub longest-text : List ℕ
 longest-text =
     hopTexts 1 (repeated 32 (record { backlog = most; delay = most }) []) ++ routeText (record { backlog = most; delay = most })
 
--- its only text
+-- its only text,
 pub longest-outcome : OnlyText longest-input longest-text
 unfolding buckets normal behind backlog delay reads valueAt last
 longest-outcome =
     let f = one-bucket 0 most (omega arith) in
     servers-32 f (lit≤ tt) (worked (port 1 0) f (lit≤ tt) (lit≤ tt))
 
--- has 1,145 bytes, as many as any text has
+-- of 1,145 bytes, as many as any text has
 pub longest-length : length longest-text ≡ 1145
 unfolding hopTexts hopText routeText numbers digits bytes repeated
 longest-length = refl
