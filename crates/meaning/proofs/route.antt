@@ -5,6 +5,7 @@ pub mod Line
 pub mod Decimal
 pub mod Text
 pub mod EveryRoute
+pub mod Answered
 pub mod Winning
 pub mod Standing
 pub mod Written

@@ -25,12 +25,13 @@ use Rattle.meaning.proofs.profile.RoundTrip.{clear-whole, ReadsBack}
 
 -- ---- The header by its bytes.
 
--- the upper bits of a byte are those of a quotient
+-- the upper four bits of a byte are those of its sixteenth,
 upper-four : (b : ℕ) (l : List ℕ) → take 4 (bitsOf 8 b ++ l) ≡ bitsOf 4 (b / 16)
 unfolding bitsOf
 upper-four b l =
     cc (div-div-eq-div-mul b 16 8, div-div-eq-div-mul b 16 4, div-div-eq-div-mul b 16 2, div-one (b / 16))
 
+-- and the upper six those of its quarter
 upper-six : (b : ℕ) (l : List ℕ) → take 6 (bitsOf 8 b ++ l) ≡ bitsOf 6 (b / 4)
 unfolding bitsOf
 upper-six b l =

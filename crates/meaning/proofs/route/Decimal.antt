@@ -138,6 +138,7 @@ record Ending (l : List ℕ) : Type 0 where
   final : ℕ
   split : l ≡ front ++ final ∷ []
 
+-- every text that is not empty has one
 ending : (c : ℕ) (l : List ℕ) → Ending (c ∷ l)
 ending c [] = record { front = []; final = c; split = refl }
 ending c (b ∷ l) =
@@ -214,8 +215,9 @@ digits-length (suc most) n (suc k) some h =
       | inr few ↦ rw (digits-one most n few) (omega arith)
     ]
 
--- ---- Digit by digit: what is printed for a number of up to 20 digits is what is printed for its tenth, and one digit more.
+-- ---- Digit by digit.
 
+-- what is printed for a number of up to 20 digits is what is printed for its tenth, and one digit more
 pub digits-step : (n : ℕ) → 10 ≤ n → n < 10 ^ 20 → digits 20 n ≡ digits 20 (n / 10) ++ (48 + n % 10) ∷ []
 digits-step n many h =
     digits-more 19 n many

@@ -182,7 +182,7 @@ route-has-text input =
     (text (x .0), record { report = x .0; reported = x .1; output-is = refl })
 
 -- The program's output is the only answer,
-single-route : (input : List ℕ) → Single (routing input .Answer)
+pub single-route : (input : List ℕ) → Single (routing input .Answer)
 unfolding routing
 single-route input a b v w = one-route v w
 

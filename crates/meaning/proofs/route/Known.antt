@@ -1,7 +1,7 @@
 -- Known inputs and their only texts: P12, a route whose delay is not its last hop's, 32 servers and more, and an input for each
 -- refusal.
 -- Assumes nothing.
-use mathlib.Core.Path.{refl, sym, subst}
+use mathlib.Core.Path.{_≡_, refl, sym, subst}
 use mathlib.Core.Logic.{inr, _≢_}
 use mathlib.Core.Option.{Option, some}
 use mathlib.Core.List.{List, [], _∷_, _++_, append-nil, List·Memᴰ·head}
@@ -10,7 +10,7 @@ use native.Mathlib.Omega.{arith}
 use lib.Dec.{lit≤}
 use lib.ListN.{length, take, drop, length-append}
 use Rattle.meaning.specs.Curve.{Bucket, buckets, reads, valueAt}
-use Rattle.meaning.specs.Server.{Server, join, last}
+use Rattle.meaning.specs.Server.{Server, join, last, Behind, Backlog, Delay}
 use Rattle.meaning.specs.Refusal.{Clear}
 use Rattle.meaning.specs.ServerQuestions.{ServerInRange}
 use Rattle.meaning.specs.Profile.{edition, curveKind, curve, server, written, kindIn}
@@ -145,61 +145,80 @@ unfoldable pub servers : ℕ → List ℕ → List ℕ
 servers zero rest = rest
 servers (suc n) rest = written edition (server (port 1 0)) ++ servers n rest
 
--- A hop that nothing waits at, so many times behind those before.
-unfoldable pub idle : ℕ → List Figures → List Figures
-idle zero hops = hops
-idle (suc n) hops = idle n (hops ++ record { backlog = 0; delay = 0 } ∷ [])
+-- A hop's figures, so many times behind those before.
+unfoldable pub repeated : ℕ → Figures → List Figures → List Figures
+repeated zero x hops = hops
+repeated (suc n) x hops = repeated n x (hops ++ x ∷ [])
 
--- The curve {(0,0)} carries nothing and stays as it is: each hop is passed,
-still-passes :
-    {before : Option Server} → Clear (joinLines before (port 1 0))
-    → Passes (buckets (0 ∷ 0 ∷ [])) before (port 1 0) (record { backlog = 0; delay = 0 }) (buckets (0 ∷ 0 ∷ []))
+-- A curve that stands behind (1,0) as it is:
+module _
+    {f : List Bucket} {x : Figures} (c : Sound f) (slow : last f .rate ≤ 1)
+    (row : Behind f (port 1 0) f × Backlog f (port 1 0) (x .backlog) × Delay f (port 1 0) (x .delay))
+  where
+    -- each hop is passed,
+    still-passes : {before : Option Server} → Clear (joinLines before (port 1 0)) → Passes f before (port 1 0) x f
+    still-passes joins = passes c c (omega arith) slow joins row
+
+    -- and so are so many
+    still-stands :
+        {input : List ℕ} (n : ℕ) (hops : List Figures) (rest : List ℕ) → length hops + n ≤ 32
+        → Standing input f hops (some (port 1 0)) f (servers n rest)
+        → Standing input f (repeated n x hops) (some (port 1 0)) f rest
+    unfolding servers repeated join
+    still-stands zero hops rest few here = here
+    still-stands (suc n) hops rest few here =
+        still-stands n (hops ++ x ∷ []) rest (simp length-append (omega arith))
+        (written-hop {s = port 1 0} here (omega arith) (still-passes (join-clear (omega arith) (omega arith) (omega arith))))
+
+    -- behind 32 of them the rest decides
+    still-32 :
+        (rest : List ℕ)
+        → Standing (written edition (curve f) ++ servers 32 rest) f (repeated 32 x []) (some (port 1 0)) f rest
+    unfolding servers repeated
+    still-32 rest =
+        still-stands 31 (x ∷ []) rest (lit≤ tt)
+        (written-hop {s = port 1 0} (written-start c _) (lit≤ tt) (still-passes (λ r h. h)))
+
+    -- 32 servers and nothing more are answered
+    pub servers-32 : OnlyText (written edition (curve f) ++ servers 32 []) (hopTexts 1 (repeated 32 x []) ++ routeText x)
+    servers-32 = only-text (standing-ends (still-32 []) x (record { backlog-is = row .1; delay-is = row .2 }))
+
+    -- bytes after 32 servers are refused, whatever they are,
+    pub after-32 : (rest : List ℕ) → rest ≢ [] → OnlyText (written edition (curve f) ++ servers 32 rest) (bytes "refused 5 at 34\n")
+    unfolding repeated
+    after-32 rest more = bytes-after-32 (still-32 rest) refl more
+
+    -- such as a 33rd server
+    pub servers-33 : OnlyText (written edition (curve f) ++ servers 33 []) (bytes "refused 5 at 34\n")
+    unfolding servers
+    servers-33 = after-32 (written edition (server (port 1 0)) ++ []) (file-there (port 1 0) [])
+
+-- ---- The longest text.
+
+-- 2^40-1, the greatest burst.
+abbrev pub most : ℕ
+most = 1099511627775
+
+-- The curve {(0, 2^40-1)} and 32 servers (1,0),
+abbrev pub longest-input : List ℕ
+longest-input = written edition (curve (buckets (0 ∷ most ∷ []))) ++ servers 32 []
+
+-- where each backlog and each delay is 2^40-1:
+abbrev pub longest-text : List ℕ
+longest-text =
+    hopTexts 1 (repeated 32 (record { backlog = most; delay = most }) []) ++ routeText (record { backlog = most; delay = most })
+
+-- its only text,
+pub longest-outcome : OnlyText longest-input longest-text
 unfolding buckets normal behind backlog delay reads valueAt last
-still-passes joins =
-    let f = one-bucket 0 0 (omega arith) in
-    passes f f (omega arith) (lit≤ tt) joins (worked (port 1 0) f (lit≤ tt) (lit≤ tt))
+longest-outcome =
+    let f = one-bucket 0 most (omega arith) in
+    servers-32 f (lit≤ tt) (worked (port 1 0) f (lit≤ tt) (lit≤ tt))
 
--- and so are so many
-still-stands :
-    {input : List ℕ} (n : ℕ) (hops : List Figures) (rest : List ℕ) → length hops + n ≤ 32
-    → Standing input (buckets (0 ∷ 0 ∷ [])) hops (some (port 1 0)) (buckets (0 ∷ 0 ∷ [])) (servers n rest)
-    → Standing input (buckets (0 ∷ 0 ∷ [])) (idle n hops) (some (port 1 0)) (buckets (0 ∷ 0 ∷ [])) rest
-unfolding servers idle join
-still-stands zero hops rest few here = here
-still-stands (suc n) hops rest few here =
-    still-stands n (hops ++ record { backlog = 0; delay = 0 } ∷ []) rest (simp length-append (omega arith))
-    (written-hop {s = port 1 0} here (omega arith) (still-passes (join-clear (omega arith) (omega arith) (omega arith))))
-
--- behind 32 of them the rest decides
-still-32 :
-    (rest : List ℕ)
-    → Standing (written edition (curve (buckets (0 ∷ 0 ∷ []))) ++ servers 32 rest) (buckets (0 ∷ 0 ∷ []))
-    (idle 32 []) (some (port 1 0)) (buckets (0 ∷ 0 ∷ [])) rest
-unfolding servers idle
-still-32 rest =
-    still-stands 31 (record { backlog = 0; delay = 0 } ∷ []) rest (lit≤ tt)
-    (written-hop {s = port 1 0} (written-start (one-bucket 0 0 (omega arith)) _) (lit≤ tt) (still-passes (λ r h. h)))
-
--- bytes after 32 servers, whatever they are,
-pub after-32 :
-    (rest : List ℕ) → rest ≢ []
-    → OnlyText (written edition (curve (buckets (0 ∷ 0 ∷ []))) ++ servers 32 rest) (bytes "refused 5 at 34\n")
-unfolding idle
-after-32 rest more = bytes-after-32 (still-32 rest) refl more
-
--- such as a 33rd server
-pub servers-33 : OnlyText (written edition (curve (buckets (0 ∷ 0 ∷ []))) ++ servers 33 []) (bytes "refused 5 at 34\n")
-unfolding servers
-servers-33 = after-32 (written edition (server (port 1 0)) ++ []) (file-there (port 1 0) [])
-
--- 32 servers and nothing more are answered
-pub servers-32 :
-    OnlyText (written edition (curve (buckets (0 ∷ 0 ∷ []))) ++ servers 32 [])
-    (hopTexts 1 (idle 32 []) ++ bytes "route 0 0\n")
-unfolding routeText numbers digits bytes buckets normal behind backlog delay reads valueAt last
-servers-32 =
-    let x = worked (port 1 0) (one-bucket 0 0 (omega arith)) (lit≤ tt) (lit≤ tt) in
-    only-text (standing-ends (still-32 []) (record { backlog = 0; delay = 0 }) (record { backlog-is = x .1; delay-is = x .2 }))
+-- of 1,145 bytes, as many as any text has
+pub longest-length : length longest-text ≡ 1145
+unfolding hopTexts hopText routeText numbers digits bytes repeated
+longest-length = refl
 
 -- ---- A route whose delay is not its last hop's.
 

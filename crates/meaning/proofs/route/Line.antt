@@ -230,6 +230,7 @@ abbrev Says : Report → Type 0
 Says (passed hops route) = RouteLine hops route
 Says (refusedAt r k) = Unit {0}
 
+-- from a place on it says so, where it holds up to there
 onward-line :
     {first : List Bucket} {hops : List Figures} {before : Option Server} {f : List Bucket} {input : List ℕ} {report : Report}
     → Onward first hops before f input report → Sofar first hops before f → Says report

@@ -12,7 +12,7 @@ use Rattle.meaning.specs.Curve.{Bucket}
 use Rattle.meaning.specs.Server.{Server, join, last, Behind}
 use Rattle.meaning.specs.Refusal.{UNBOUNDED, LARGE, number, Clear, Verdict, accepted, TooLarge}
 use Rattle.meaning.specs.ServerQuestions.{ServerInRange}
-use Rattle.meaning.specs.Profile.{edition, curveKind, server, written, editionOf, kindIn, profileOf, bytesTaken, fileLines}
+use Rattle.meaning.specs.Profile.{edition, curveKind, serverKind, server, written, editionOf, kindIn, profileOf, bytesTaken, fileLines}
 use Rattle.meaning.specs.Route.{firstFile, bytes, digits, numbers, refusedText, IsCurve, IsServer, dueLines, joinLines, hopLines, Figures}
 use Rattle.meaning.proofs.Lists.{curve-list}
 use Rattle.meaning.proofs.outcome.Outcomes.{line-hit, clear-or, refused-then}
@@ -22,7 +22,7 @@ use Rattle.meaning.proofs.profile.Refusals.{cut-short}
 use Rattle.meaning.proofs.route.BackToBack.{first-whole, first-cut, kind-cut, begins}
 use Rattle.meaning.proofs.route.EveryRoute.{OnlyText, only-text}
 use Rattle.meaning.proofs.route.Line.{JoinedInRange}
-use Rattle.meaning.proofs.route.Winning.{not-due, nothing-there, curve-there, server-file-decides, curve-file-decides, reading-decides, port-decides, join-decides, behind-decides}
+use Rattle.meaning.proofs.route.Winning.{not-due, nothing-there, other-edition-there, other-kind-there, curve-there, server-file-decides, curve-file-decides, reading-decides, port-decides, join-decides, behind-decides}
 use Rattle.meaning.proofs.route.Standing.{Standing, curve-refused, standing-over, standing-stops}
 use Rattle.meaning.proofs.route.Written.{Sound, sound-lines, due-clear, port-clear, file-there}
 
@@ -37,6 +37,11 @@ module _ (input : List ℕ) where
   pub no-curve-due : (IsCurve (profileOf input) → ⊥) → OnlyText input (bytes "refused 1 at 1\n")
   unfolding refusedText numbers digits bytes
   no-curve-due other = refused-at-1 {code = 1} (not-due IsCurve input other) (λ e. omega arith)
+
+  -- and so is another edition
+  pub other-edition : editionOf input ≢ edition → OnlyText input (bytes "refused 1 at 1\n")
+  unfolding refusedText numbers digits bytes
+  other-edition other = refused-at-1 {code = 1} (other-edition-there IsCurve input other) (λ e. omega arith)
 
 -- the empty input
 pub empty-input : OnlyText [] (bytes "refused 1 at 1\n")
@@ -112,9 +117,18 @@ module _
       pub curve-for-server : kindIn rest ≡ curveKind → OnlyText input (refusedText 1 (length hops + 2))
       curve-for-server kind = refused-in-reading {code = 1} (curve-there rest kind) (λ e. omega arith)
 
-      -- and so is nothing at all
+      -- so is nothing at all,
       pub nothing-for-server : rest ≡ [] → OnlyText input (refusedText 1 (length hops + 2))
       nothing-for-server e = refused-in-reading {code = 1} (rw e (nothing-there IsServer)) (λ e. omega arith)
+
+      -- another edition,
+      pub edition-for-server : editionOf rest ≢ edition → OnlyText input (refusedText 1 (length hops + 2))
+      edition-for-server other = refused-in-reading {code = 1} (other-edition-there IsServer rest other) (λ e. omega arith)
+
+      -- and another kind
+      pub kind-for-server : kindIn rest ≢ curveKind → kindIn rest ≢ serverKind → OnlyText input (refusedText 1 (length hops + 2))
+      kind-for-server no-curve no-server =
+          refused-in-reading {code = 1} (other-kind-there IsServer rest no-curve no-server) (λ e. omega arith)
 
 -- A server's file cut short.
 pub cut-server :

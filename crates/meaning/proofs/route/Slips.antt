@@ -6,17 +6,20 @@ use mathlib.Core.Logic.{_≢_}
 use mathlib.Core.List.{List, [], _∷_, _++_}
 use Prim.Native.Nat.{ℕ, _≤_, _<_}
 use native.Mathlib.Omega.{arith}
+use lib.Dec.{lit≤}
 use lib.ListN.{length, take, getD}
-use Rattle.meaning.specs.Curve.{Bucket, buckets}
+use Rattle.meaning.specs.Curve.{Bucket, buckets, reads, valueAt}
+use Rattle.meaning.specs.Server.{last}
+use Rattle.meaning.specs.Computed.{normal, behind, backlog, delay}
 use Rattle.meaning.specs.Profile.{edition, curve, server, written}
 use Rattle.meaning.specs.Figures.{C, port}
 use Rattle.meaning.specs.Route.{bytes, digits, numbers, hopText, hopTexts, Route}
 use Rattle.meaning.proofs.Figures.{c-sound}
 use Rattle.meaning.proofs.profile.Known.{idle-file}
 use Rattle.meaning.proofs.route.EveryRoute.{OnlyText}
-use Rattle.meaning.proofs.route.Written.{Sound}
+use Rattle.meaning.proofs.route.Written.{Sound, one-bucket, worked}
 use Rattle.meaning.proofs.route.Refusals.{empty-input}
-use Rattle.meaning.proofs.route.Known.{p12-input, p12-outcome, curve-cut, rate-nothing, servers, idle, servers-33, twice-input, twice-outcome, second-refused, slow-and-late}
+use Rattle.meaning.proofs.route.Known.{p12-input, p12-outcome, curve-cut, rate-nothing, servers, repeated, after-32, most, longest-text, twice-input, twice-outcome, second-refused, slow-and-late}
 
 -- a text that differs from the only one in a byte is none
 other-byte :
@@ -101,9 +104,11 @@ place-without-the-curve rest = other-byte (second-refused rest) 13 (λ e. omega 
 
 -- bytes after 32 servers ignored
 pub bytes-after-32-ignored :
-    Route (written edition (curve (buckets (0 ∷ 0 ∷ []))) ++ servers 33 []) (hopTexts 1 (idle 32 []) ++ bytes "route 0 0\n") → ⊥
-unfolding bytes digits numbers hopText hopTexts idle
-bytes-after-32-ignored = other-byte servers-33 0 (λ e. omega arith)
+    (rest : List ℕ) → rest ≢ [] → Route (written edition (curve (buckets (0 ∷ most ∷ []))) ++ servers 32 rest) longest-text → ⊥
+unfolding bytes digits numbers hopText hopTexts repeated buckets normal behind backlog delay reads valueAt last
+bytes-after-32-ignored rest more =
+    let f = one-bucket 0 most (omega arith) in
+    other-byte (after-32 f (lit≤ tt) (worked (port 1 0) f (lit≤ tt) (lit≤ tt)) rest more) 0 (λ e. omega arith)
 
 -- ---- Stand-ins.
 

@@ -26,6 +26,7 @@ abbrev Placed : Report → Type 0
 Placed (passed hops route) = Unit {0}
 Placed (refusedAt r k) = (1 ≤ k) × (k ≤ 34)
 
+-- from a place on a report is so
 onward-placed :
     {first : List Bucket} {hops : List Figures} {before : Option Server} {f : List Bucket} {input : List ℕ} {report : Report}
     → Onward first hops before f input report → Placed report
@@ -60,6 +61,7 @@ numbers-length : (n : ℕ) (l : List ℕ) → length (numbers (n ∷ l)) ≡ 1 +
 unfolding numbers bytes
 numbers-length n l = omega (arith, length-append (digits 20 n) (numbers l))
 
+-- no number has no byte
 no-numbers : length (numbers []) ≡ 0
 unfolding numbers
 no-numbers = refl
@@ -157,19 +159,22 @@ hop-texts-more n (y ∷ l) x =
     ap (λ (t : List ℕ). hopText n y ++ t) (hop-texts-more (n + 1) l x ∙ ap (λ (m : ℕ). hopTexts (n + 1) l ++ hopText m x) next)
     ∙ sym (append-assoc (hopText n y) (hopTexts (n + 1) l) (hopText (n + suc (length l)) x))
 
--- a word and a space
+-- a word and a space: that of a hop,
 hop-word : bytes "hop " ≡ bytes "hop" ++ bytes " "
 unfolding bytes
 hop-word = refl
 
+-- of the route,
 route-word : bytes "route " ≡ bytes "route" ++ bytes " "
 unfolding bytes
 route-word = refl
 
+-- of a refusal,
 refused-word : bytes "refused " ≡ bytes "refused" ++ bytes " "
 unfolding bytes
 refused-word = refl
 
+-- and the one between its numbers
 at-word : bytes " at " ≡ bytes " at" ++ bytes " "
 unfolding bytes
 at-word = refl
@@ -218,10 +223,12 @@ abbrev pub AllText : List ℕ → Type 0
 AllText [] = Unit {0}
 AllText (c ∷ l) = (c < 128) × AllText l
 
+-- two such lists together are one,
 text-append : (l r : List ℕ) → AllText l → AllText r → AllText (l ++ r)
 text-append [] r h k = k
 text-append (c ∷ l) r h k = (h .0, text-append l r (h .1) k)
 
+-- digits are such,
 digits-text : (l : List ℕ) → AllDigits l → AllText l
 digits-text [] h = tt
 digits-text (c ∷ l) h = (omega (arith, h .1), digits-text l (h .2))
@@ -246,6 +253,7 @@ hops-text n (x ∷ l) =
     text-append (hopText n x) (hopTexts (n + 1) l)
     (line-text (bytes "hop") (n ∷ x .backlog ∷ x .delay ∷ []) (omega arith)) (hops-text (n + 1) l)
 
+-- and every report's text,
 report-text : (report : Report) → AllText (text report)
 unfolding text routeText refusedText bytes
 report-text (passed hops x) =
@@ -256,6 +264,6 @@ report-text (refusedAt r k) =
     (text-append (bytes "refused" ++ numbers (number r ∷ [])) (bytes " at")
     (text-append (bytes "refused") (numbers (number r ∷ [])) (omega arith) (numbers-text (number r ∷ []))) (omega arith))
 
--- so every output is
+-- so that every output is
 pub route-text : {input output : List ℕ} → Route input output → AllText output
 route-text r = subst AllText (sym (r .output-is)) (report-text (r .report))

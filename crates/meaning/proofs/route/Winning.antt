@@ -3,7 +3,7 @@
 -- curve behind: in this order the first that holds has the smallest number of all.
 -- Assumes nothing.
 use mathlib.Core.Path.{_≡_, refl, sym, _∙_, ap, subst}
-use mathlib.Core.Logic.{inl, inr, _≢_}
+use mathlib.Core.Logic.{_⊎_, inl, inr, _≢_}
 use mathlib.Core.Option.{Option, none, some}
 use mathlib.Core.List.{List, []}
 use Prim.Native.Nat.{ℕ, _≤_}
@@ -16,7 +16,7 @@ use Rattle.meaning.specs.Curve.{Bucket, listOf}
 use Rattle.meaning.specs.Server.{Server, Behind}
 use Rattle.meaning.specs.Refusal.{Refusal, HEADER, LENGTH, PAD, RANGE, UNBOUNDED, LARGE, number, Lines, _when_, _or_, Wins, Clear, Verdict, accepted, rejected, TooLarge, curveLines}
 use Rattle.meaning.specs.ServerQuestions.{ServerInRange, portLines}
-use Rattle.meaning.specs.Profile.{curveKind, Profile, curve, server, kindIn, profileOf, bytesTaken, profileLines, fileLines, serverIn}
+use Rattle.meaning.specs.Profile.{edition, curveKind, serverKind, Profile, curve, server, editionOf, kindIn, profileOf, bytesTaken, profileLines, fileLines, serverIn}
 use Rattle.meaning.specs.Route.{firstFile, IsCurve, IsServer, dueLines, joinLines, hopLines}
 use Rattle.meaning.proofs.outcome.Outcomes.{number-positive, From, from-when, from-or, UpTo, up-to-when, up-to-or, line-miss, clear-or, refused-then}
 use Rattle.meaning.proofs.outcome.Demands.{port-up-to}
@@ -33,16 +33,34 @@ unfolding number
 not-due Due input other =
     rejected HEADER (record { holds = inl (refl, other); smallest = λ r h. number-positive r }) refl
 
--- nothing at all where either is due,
+-- and so is a header that is wrong,
+header-there :
+    (Due : Profile → Type 0) (input : List ℕ)
+    → (length (firstFile input) ≡ 0)
+    ⊎ (editionOf (firstFile input) ≢ edition)
+    ⊎ ((kindIn (firstFile input) ≢ curveKind) × (kindIn (firstFile input) ≢ serverKind))
+    → Verdict (dueLines Due input) 1
+unfolding number
+header-there Due input h =
+    rejected HEADER (record { holds = inr (inl (inl (inl (refl, h)))); smallest = λ r _. number-positive r }) refl
+
+-- nothing at all,
 pub nothing-there : (Due : Profile → Type 0) → Verdict (dueLines Due []) 1
-unfolding number firstFile
-nothing-there Due =
-    rejected HEADER
-    (record {
-      holds = inr (inl (inl (inl (refl, inl (ap length (take-nil (bytesTaken [])))))));
-      smallest = λ r h. number-positive r;
-    })
-    refl
+unfolding firstFile
+nothing-there Due = header-there Due [] (inl (ap length (take-nil (bytesTaken []))))
+
+-- another edition,
+pub other-edition-there : (Due : Profile → Type 0) (input : List ℕ) → editionOf input ≢ edition → Verdict (dueLines Due input) 1
+other-edition-there Due input other =
+    header-there Due input (inr (inl (λ e. other (sym (same-start input .edition-same) ∙ e))))
+
+-- another kind,
+pub other-kind-there :
+    (Due : Profile → Type 0) (input : List ℕ) → kindIn input ≢ curveKind → kindIn input ≢ serverKind
+    → Verdict (dueLines Due input) 1
+other-kind-there Due input no-curve no-server =
+    header-there Due input
+    (inr (inr (λ e. no-curve (sym (same-start input .kind-same) ∙ e), λ e. no-server (sym (same-start input .kind-same) ∙ e))))
 
 module _ (input : List ℕ) where
   -- a curve where a server is due,
