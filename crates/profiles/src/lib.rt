@@ -44,7 +44,7 @@ pub fn kind_in(input: &[u8]) -> u64
     if input.len() == 0 {
         return 0;
     }
-    bits::field_at(input, 4, 4)
+    bits::take_field(input, 4, 4)
 }
 
 // How many buckets the curve has that an input begins with.
@@ -54,7 +54,7 @@ fn count_in(input: &[u8]) -> usize
     if input.len() < 2 {
         return 1;
     }
-    bits::field_at(input, 8, 6) as usize + 1
+    bits::take_field(input, 8, 6) as usize + 1
 }
 
 // The bytes that the profile takes that an input begins with, by its kind and count.
