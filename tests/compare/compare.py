@@ -22,6 +22,7 @@ from rules import (
 )
 
 C = [(10, 2), (3, 20)]
+MOST_ROOM = 1200
 
 
 class Tally:
@@ -60,6 +61,13 @@ class Tally:
             exact = CALLS[call].exact(*operands)
             wrong += self.compared(call, operands, exact, some_output(call, len(exact.output)))
         self.ran(name, count, wrong)
+
+    def each(self, name, call, inputs):
+        """A test of all of some inputs, with an output that has room for every answer."""
+        wrong = []
+        for operands in inputs:
+            wrong += self.compared(call, operands, CALLS[call].exact(*operands), an_output(call, MOST_ROOM))
+        self.ran(name, len(inputs), wrong)
 
     def every_length(self, call, operands):
         """A test with outputs of every length, from none to three more than needed."""
@@ -319,6 +327,16 @@ def every_length(tally):
         tally.every_length(name, operands)
 
 
+def every_damage(tally):
+    """Files with each bit flipped, and of every length; routes of every length."""
+    full = profiles.curve_file(drawing.curve_of(64, 300, 200))
+    for name, file in [("C", profiles.curve_file(C)), ("the server (1,1)", profiles.server_file(Server(1, 1)))]:
+        tally.each(f"read, each bit of {name} flipped", "read", [[drawing.flipped(file, bit)] for bit in range(8 * len(file))])
+    tally.each("read, every length of 64 buckets", "read", [[(full + bytes(8))[:length]] for length in range(len(full) + 9)])
+    route = profiles.curve_file(C) + 34 * profiles.server_file(Server(5, 1))
+    tally.each("route, every length of 34 servers", "route", [[route[:length]] for length in range(len(route) + 1)])
+
+
 def coverage(tally):
     """Every code that a call can give came up, and every refusal inside a route, at the curve, the first and a later server."""
     for name, call in CALLS.items():
@@ -344,6 +362,7 @@ def main(path):
     references(tally)
     campaigns(tally)
     every_length(tally)
+    every_damage(tally)
     coverage(tally)
     print(f"{tally.passed} passed, {tally.failed} failed")
     return tally.failed != 0

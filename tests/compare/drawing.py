@@ -233,10 +233,20 @@ def route_servers(curve, count):
     servers = []
     for _ in range(count):
         server = server_for(curve)
-        if rng.random() < 0.9:
+        kind = rng.random()
+        if kind < 0.9:
             server = clamped(Server(max(server.rate, curve[-1][0]), rng.choice([server.latency, rng.randint(0, 9)]) % (LATENCY_END // 16)))
+        elif kind < 0.93:
+            # Too slow and too late at once, if the curve allows it.
+            server = clamped(Server(curve[-1][0] - 1, LATENCY_END - 1))
         servers.append(server)
     return servers
+
+
+def out_of_place(place, curve):
+    """A profile of the other kind, sometimes cut short."""
+    file = profiles.curve_file(curve) if place else profiles.server_file(any_server())
+    return file if rng.random() < 0.4 else file[:rng.randint(1, len(file))]
 
 
 def route_input(curve, chance):
@@ -244,10 +254,8 @@ def route_input(curve, chance):
     parts = [profiles.curve_file(curve)] + [profiles.server_file(server) for server in route_servers(curve, count)]
     if rng.random() < chance:
         place = rng.choice([0, rng.randrange(len(parts)), rng.randrange(len(parts))])
-        if rng.random() < 0.15:
-            parts[place] = profiles.curve_file(curve) if place else profiles.server_file(any_server())
-        else:
-            parts[place] = damaged_file(parts[place], curve)
-        if rng.random() < 0.3:
+        wrong_kind = rng.random() < 0.25
+        parts[place] = out_of_place(place, curve) if wrong_kind else damaged_file(parts[place], curve)
+        if rng.random() < 0.4:
             del parts[place + 1:]
     return b"".join(parts)
