@@ -4,23 +4,21 @@
 use mathlib.Core.Path.{_≡_, refl, sym, _∙_, ap, subst}
 use mathlib.Core.Logic.{_⊎_, inl, inr}
 use mathlib.Core.Bool.{Bool, true, false, not, true≢false}
-use mathlib.Core.List.{List, [], _∷_, _++_, List·Memᴰ·head, List·Memᴰ·tail, List·Memᴰ·cases-cons, List·Memᴰ·append-cases, List·Memᴰ·not-nil}
+use mathlib.Core.List.{List, [], _∷_, _++_, List·Memᴰ·head, List·Memᴰ·cases-cons, List·Memᴰ·append-cases, List·Memᴰ·not-nil}
 use Prim.Native.Nat.{ℕ, _+_, _≤_, _<_}
 use native.Mathlib.Nat.{le-of-lt}
 use native.Mathlib.Omega.{arith}
 use lib.Dec.{leb, ltb}
-use lib.ListN.{length, take, drop, length-drop, take-append-drop}
-use lib.Seq.{length-take-le}
+use lib.ListN.{length, take, drop, length-drop}
 use borrow.Author.Tests.{leb-true, leb-false, ltb-true, ltb-false, not-true, not-false}
 use Rattle.meaning.specs.Curve.{Bucket, _∈_, buckets}
 use Rattle.checks.specs.Contracts.{Tells, bucketOf}
 use Rattle.checks.specs.declared.Bucket as held
-use Rattle.checks.proofs.Buckets.{bucket-inside, buckets-next, buckets-end, buckets-append, buckets-passed}
+use Rattle.checks.proofs.Buckets.{bucket-inside, buckets-next, buckets-passed}
 use Rattle.checks.proofs.Ranges.{tells-yes, tells-no}
-use Rattle.settle.specs.Contracts.{bucketFrom, Ahead, InOrder, First, Best, Passed, Ready, Comes}
+use Rattle.settle.specs.Contracts.{bucketFrom, Ahead, InOrder, Passed, Ready, Comes}
 use Rattle.settle.specs.declared.candidates.Candidate.{Candidate}
-use Rattle.settle.specs.declared.candidates.Found.{Found}
-use Rattle.settle.proofs.Steepest.{ahead-same, ahead-further, longer, all-passed}
+use Rattle.settle.proofs.Steepest.{ahead-same, ahead-further, longer, in-two, all-passed}
 
 -- ---- One pair.
 
@@ -120,21 +118,14 @@ in-order-behind [] g o = o
 in-order-behind (k ∷ f) g o = in-order-behind f g (o .1)
 
 module _ {bound : ℕ} {l : List ℕ} {i : ℕ} (p : Passed bound l i) where
-  -- the buckets before the index and from it on are all
-  parts : buckets l ≡ buckets (take i l) ++ buckets (drop i l)
-  parts =
-      ap buckets (sym (take-append-drop i l))
-      ∙ buckets-append (take i l) (drop i l) (omega (arith, length-take-le i l (p .inside)))
-
   -- none is left
   pub comes-none :
-      {k : held.Bucket} → length l ≤ i + 1
-      → Comes bound l (record { some = false; bucket = k; at = i })
+      {k : held.Bucket} → length l ≤ i + 1 → Comes bound l (record { some = false; bucket = k; at = i })
   comes-none h =
       record {
         best = record {
           first = λ t. absurd (true≢false (sym t));
-          none = λ t. subst (λ (f : List Bucket). (k : Bucket) → k ∈ f → bound ≤ k .rate) (all-passed l i (p .inside) (p .even) h) (p .steeper);
+          none = λ t. rw (all-passed l i (p .inside) (p .even) h) (p .steeper);
         };
         passed = p;
       }
@@ -152,8 +143,7 @@ module _ {bound : ℕ} {l : List ℕ} {i : ℕ} (p : Passed bound l i) where
 
     -- it is
     pub comes-first :
-        InOrder (buckets l) → k .rate < bound
-        → Comes bound l (record { some = true; bucket = k; at = i })
+        InOrder (buckets l) → k .rate < bound → Comes bound l (record { some = true; bucket = k; at = i })
     unfolding InOrder
     comes-first o h =
         record {
@@ -162,18 +152,22 @@ module _ {bound : ℕ} {l : List ℕ} {i : ℕ} (p : Passed bound l i) where
                 record {
                   inside = subst (λ (j : Bucket). j ∈ buckets l) (sym is) (bucket-inside l i (p .even) more);
                   below = h;
-                  ahead = λ j m b. split j b (List·Memᴰ·append-cases (buckets (take i l)) (subst (λ (f : List Bucket). j ∈ f) parts m));
+                  ahead = λ j m b.
+                      split j b (List·Memᴰ·append-cases (buckets (take i l)) (subst (λ (f : List Bucket). j ∈ f) all m));
                 };
             none = λ t. absurd (true≢false t);
           };
           passed = p;
         }
       where
+        all : buckets l ≡ buckets (take i l) ++ buckets (drop i l)
+        all = in-two l i (p .inside) (p .even)
+
         left : buckets (drop i l) ≡ bucketOf k ∷ buckets (drop (i + 2) l)
         left = buckets-next l i more ∙ cc
 
         from : InOrder (bucketOf k ∷ buckets (drop (i + 2) l))
-        from = subst InOrder left (in-order-behind (buckets (take i l)) _ (subst InOrder parts o))
+        from = subst InOrder left (in-order-behind (buckets (take i l)) _ (subst InOrder all o))
 
         behind : (j : Bucket) → (j ≡ bucketOf k) ⊎ (j ∈ buckets (drop (i + 2) l)) → Ahead (bucketOf k) j
         behind j (inl e) = ahead-same e
@@ -200,15 +194,9 @@ module _ {bound : ℕ} {l : List ℕ} {i : ℕ} {ordered : Bool} (w : Ready boun
   pub ready-in-order : ordered ≡ true → InOrder (buckets l)
   ready-in-order = w .in-order
 
-  -- where it is not in order, the first one by that order comes
-  pub ready-best :
-      {x : Found} → Best bound (buckets l) x → Comes bound l (record { some = x .some; bucket = x .bucket; at = i })
-  ready-best b = record { best = b; passed = w .passed }
-
-  -- its rate is the next bound
+  -- the rate of a candidate is the next bound
   pub ready-next :
-      {x : Candidate} → Comes bound l x → not (x .some) ≡ false
-      → Ready (x .bucket .rate) l (x .at) ordered
+      {x : Candidate} → Comes bound l x → not (x .some) ≡ false → Ready (x .bucket .rate) l (x .at) ordered
   ready-next c some =
       record {
         in-order = w .in-order;
@@ -219,4 +207,4 @@ module _ {bound : ℕ} {l : List ℕ} {i : ℕ} {ordered : Bool} (w : Ready boun
         };
       }
 
-pub ruleset readying = (ready-start, ready-in-order, ready-best, ready-next)
+pub ruleset readying = (ready-start, ready-in-order, ready-next)

@@ -254,8 +254,8 @@ picked-start short wide long =
     }
 
 module _
-    {raw out : List ℕ} {count bound : ℕ} (w : Picked raw out count bound) {next : Candidate} (comes : Comes bound raw next)
-  where
+    {raw out : List ℕ} {count bound : ℕ} (w : Picked raw out count bound) {next : Candidate}
+    (comes : Comes bound raw next) where
   -- no bucket is left below the bound
   pub picked-end : not (next .some) ≡ true → Chose (buckets raw) out count
   picked-end none =

@@ -27,10 +27,10 @@ ahead-same e =
     let b = ap (λ (x : Bucket). x .burst) e in
     record { steeper = omega arith; lower = λ same. omega arith }
 
-pub ahead-steeper : {c k : Bucket} → k .rate < c .rate → Ahead c k
+ahead-steeper : {c k : Bucket} → k .rate < c .rate → Ahead c k
 ahead-steeper h = record { steeper = omega arith; lower = λ same. absurd (omega arith) }
 
-pub ahead-lower : {c k : Bucket} → k .rate ≤ c .rate → c .burst ≤ k .burst → Ahead c k
+ahead-lower : {c k : Bucket} → k .rate ≤ c .rate → c .burst ≤ k .burst → Ahead c k
 ahead-lower h l = record { steeper = h; lower = λ same. l }
 
 pub ahead-further : {a b c : Bucket} → Ahead a b → Ahead b c → Ahead a c
@@ -80,9 +80,11 @@ module _ {bound : ℕ} {best : Found} {next : held.Bucket} where
   pub keeps-past : bound ≤ next .rate → Keeps bound best next best
   keeps-past h = keeps (λ s l. absurd (omega arith)) (λ s. h)
 
-  -- it is not ahead of the one found
-  pub keeps-ahead : best .some ≡ true → Ahead (bucketOf (best .bucket)) (bucketOf next) → Keeps bound best next best
-  keeps-ahead t h = keeps (λ s l. h) (λ s. absurd (true≢false (sym t ∙ s)))
+  -- it is not ahead of the one found, as the test of the two tells
+  pub keeps-told :
+      {answer : Bool} → best .some ≡ true → Tells (Ahead (bucketOf (best .bucket)) (bucketOf next)) answer → answer ≡ true
+      → Keeps bound best next best
+  keeps-told t tells e = keeps (λ s l. tells .yes-means e) (λ s. absurd (true≢false (sym t ∙ s)))
 
   module _ (l : next .rate < bound) where
     takes :
@@ -108,30 +110,26 @@ module _ {bound : ℕ} {best : Found} {next : held.Bucket} where
     takes-first t = takes (λ f b k m h. absurd (omega (arith, b .none t k m)))
 
     -- it is ahead of the one found
-    pub takes-ahead :
-        best .some ≡ true → Ahead (bucketOf next) (bucketOf (best .bucket))
-        → Keeps bound best next (record { some = true; bucket = next })
-    takes-ahead t a = takes (λ f b k m h. ahead-further a (b .first t .ahead k m h))
-
-  -- as the test of the two tells
-  module _ (t : best .some ≡ true) {answer : Bool} (tells : Tells (Ahead (bucketOf (best .bucket)) (bucketOf next)) answer) where
-    pub keeps-told : answer ≡ true → Keeps bound best next best
-    keeps-told y = keeps-ahead t (tells .yes-means y)
-
-    pub takes-told : next .rate < bound → answer ≡ false → Keeps bound best next (record { some = true; bucket = next })
-    takes-told l n = takes-ahead l t (ahead-other (tells .no-means n))
+    pub takes-told :
+        {answer : Bool} → best .some ≡ true → Tells (Ahead (bucketOf (best .bucket)) (bucketOf next)) answer
+        → answer ≡ false → Keeps bound best next (record { some = true; bucket = next })
+    takes-told t tells e =
+        takes (λ f b k m h. ahead-further (ahead-other (tells .no-means e)) (b .first t .ahead k m h))
 
 pub ruleset bettering = (keeps-past, keeps-told, takes-first, takes-told, not-true, not-false)
 
 -- ---- One pass.
 
--- where no bucket is left, those passed are all
-pub all-passed : (l : List ℕ) (i : ℕ) → i ≤ length l → i % 2 ≡ 0 → length l ≤ i + 1 → buckets (take i l) ≡ buckets l
+-- those before an even index, and those from it on, are all
+pub in-two : (l : List ℕ) (i : ℕ) → i ≤ length l → i % 2 ≡ 0 → buckets l ≡ buckets (take i l) ++ buckets (drop i l)
+in-two l i inside even =
+    ap buckets (sym (take-append-drop i l))
+    ∙ buckets-append (take i l) (drop i l) (omega (arith, length-take-le i l inside))
+
+-- where none is left, those before are all
+pub all-passed : (l : List ℕ) (i : ℕ) → i ≤ length l → i % 2 ≡ 0 → length l ≤ i + 1 → buckets l ≡ buckets (take i l)
 all-passed l i inside even h =
-    sym (append-nil _)
-    ∙ ap (λ (f : List Bucket). buckets (take i l) ++ f) (sym (buckets-end l i h))
-    ∙ sym (buckets-append (take i l) (drop i l) (omega (arith, length-take-le i l inside)))
-    ∙ ap buckets (take-append-drop i l)
+    in-two l i inside even ∙ ap (λ (f : List Bucket). buckets (take i l) ++ f) (buckets-end l i h) ∙ append-nil _
 
 -- The best of the buckets up to an even index.
 pub record Sought (bound : ℕ) (l : List ℕ) (best : Found) (i : ℕ) : Type 0 where
@@ -160,6 +158,6 @@ module _ {bound : ℕ} {l : List ℕ} {best : Found} {i : ℕ} (w : Sought bound
       }
 
   pub sought-end : length l ≤ i + 1 → Best bound (buckets l) best
-  sought-end h = subst (λ (f : List Bucket). Best bound f best) (all-passed l i (w .inside) (w .even) h) (w .best-is)
+  sought-end h = rw (all-passed l i (w .inside) (w .even) h) (w .best-is)
 
 pub ruleset seeking = (sought-start, sought-step, sought-end)

@@ -69,10 +69,7 @@ fn after_steeper(c: Bucket, j: Bucket, e: Ends) -> Left
             high_over: e.high_over,
         });
     }
-    Left {
-        ends: e,
-        any: true,
-    }
+    Left { ends: e, any: true }
 }
 
 // The times left once a flatter bucket j is seen, which is above c only up to their crossing.
@@ -90,10 +87,7 @@ fn before_flatter(c: Bucket, j: Bucket, e: Ends) -> Left
             high_over: fall,
         });
     }
-    Left {
-        ends: e,
-        any: true,
-    }
+    Left { ends: e, any: true }
 }
 
 // The times left once a bucket j of the same rate is seen, which is never above c, or always.
@@ -109,10 +103,7 @@ fn beside_equal(c: Bucket, j: Bucket, e: Ends) -> Left
             high_over: 1,
         });
     }
-    Left {
-        ends: e,
-        any: true,
-    }
+    Left { ends: e, any: true }
 }
 
 // The times that are left once bucket j is seen too.

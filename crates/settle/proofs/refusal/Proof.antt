@@ -7,4 +7,10 @@ use Rattle.settle.proofs.refusal.Tie as tie
 
 pub refusal-spec : {M : Type 1} → statement M
 refusal-spec =
-    tie.close (tie.spec (λ c. search (refusing, needs)) (λ c. search (refusing, needs)) (λ c κs. search needs) (λ c. search (refusing, needs)) (λ c. search (refusing, needs)))
+    tie.close
+    (tie.spec
+    (λ c. search (refusing, needs))
+    (λ c. search (refusing, needs))
+    (λ c κs. search needs)
+    (λ c. search (refusing, needs))
+    (λ c. search (refusing, needs)))

@@ -4,14 +4,6 @@ use borrow.Author.Needs.{needs}
 use Rattle.operations.proofs.curves.normalise.Statement.{statement}
 use Rattle.operations.proofs.curves.normalise.Tie as tie
 
-normalise-in-requires : tie.Need-normalise-in-requires
-normalise-in-requires c κs = search needs
-
-same-length : tie.Need-same-length
-same-length c = search needs
-
-returns : tie.Need-returns
-returns c = search (asking, needs)
-
 pub normalise-spec : {M : Type 1} → statement M
-normalise-spec = tie.close (tie.spec normalise-in-requires same-length returns)
+normalise-spec =
+    tie.close (tie.spec (λ c κs. search needs) (λ c. search needs) (λ c. search (asking, needs)))

@@ -4,14 +4,6 @@ use borrow.Author.Needs.{needs}
 use Rattle.operations.proofs.curves.shape.Statement.{statement}
 use Rattle.operations.proofs.curves.shape.Tie as tie
 
-shape-in-requires : tie.Need-shape-in-requires
-shape-in-requires c κs = search needs
-
-same-length : tie.Need-same-length
-same-length c = search needs
-
-returns : tie.Need-returns
-returns c = search (asking, needs)
-
 pub shape-spec : {M : Type 1} → statement M
-shape-spec = tie.close (tie.spec shape-in-requires same-length returns)
+shape-spec =
+    tie.close (tie.spec (λ c κs. search needs) (λ c. search needs) (λ c. search (asking, needs)))

@@ -1,44 +1,19 @@
--- `before_flatter` gives the ends that a flatter bucket leaves; its cross products fit.
+-- `before_flatter` gives the times that a flatter bucket leaves; its cross products fit.
 -- Assumes nothing.
 use native.Mathlib.Omega.{arith}
 use Rattle.settle.proofs.Narrowing.{product-fits, narrowing}
 use borrow.Author.Needs.{needs}
 use Rattle.settle.proofs.ends.before_flatter.Statement.{statement}
 use Rattle.settle.proofs.ends.before_flatter.Tie as tie
-use Rattle.settle.proofs.ends.before_flatter.Reads as reads
-use Rattle.settle.proofs.ends.before_flatter.Lts as lts
-use Rattle.settle.proofs.ends.minus.Reads as minus-reads
-use Rattle.settle.proofs.ends.moved.Reads as moved-reads
-
--- src/ends.rt:83:9
-minus-requires : tie.Need-minus-requires
-minus-requires c κs = search needs
-
--- src/ends.rt:84:9
-minus-requires-2 : tie.Need-minus-requires-2
-minus-requires-2 c κs = search needs
-
--- src/ends.rt:85:8
-mul-if1 : tie.Need-mul-if1
-mul-if1 c = product-fits (omega arith) (omega arith)
-
--- src/ends.rt:85:29
-mul-if1-2 : tie.Need-mul-if1-2
-mul-if1-2 c = product-fits (omega arith) (omega arith)
-
--- src/ends.rt:86:9
-moved-requires : tie.Need-moved-requires
-moved-requires c κs = search needs
-
--- src/ends.rt:86:9
-returns : tie.Need-returns
-returns c = search (narrowing, needs)
-
--- src/ends.rt:79:1
-returns-2 : tie.Need-returns-2
-returns-2 c = search (narrowing, needs)
 
 pub before-flatter-spec : {M : Type 1} → statement M
 before-flatter-spec =
     tie.close
-    (tie.spec minus-requires minus-requires-2 mul-if1 mul-if1-2 moved-requires returns returns-2)
+    (tie.spec
+    (λ c κs. search needs)
+    (λ c κs. search needs)
+    (λ c. product-fits (omega arith) (omega arith))
+    (λ c. product-fits (omega arith) (omega arith))
+    (λ c κs. search needs)
+    (λ c. search (narrowing, needs))
+    (λ c. search (narrowing, needs)))

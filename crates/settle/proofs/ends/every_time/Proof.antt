@@ -10,4 +10,5 @@ unfolding everyTime
 returns c = search needs
 
 pub every-time-spec : {M : Type 1} → statement M
-every-time-spec = tie.close (tie.spec returns)
+every-time-spec =
+    tie.close (tie.spec returns)
