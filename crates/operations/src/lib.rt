@@ -4,4 +4,5 @@
 // lies beyond the answer stays, and on a refusal everything does.
 pub mod curves;
 mod gather;
+mod lowest;
 pub mod value;
