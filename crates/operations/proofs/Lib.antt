@@ -1,6 +1,7 @@
 -- The laws that the proofs of this crate's functions cite.
 pub mod Walking
 pub mod Valuing
+pub mod Turning
 pub mod Merging
 pub mod Adding
 pub mod Pairing

@@ -3,6 +3,7 @@
 // from the start of a lent list, or of a part of a larger table: the `room` numbers from `at`, as far as the table has them. What
 // lies beyond the answer stays, and on a refusal everything does.
 pub mod curves;
+mod excess;
 mod gather;
 mod lowest;
 pub mod value;

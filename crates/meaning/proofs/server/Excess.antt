@@ -97,7 +97,7 @@ below-other :
 below-other u m other = u .below _ m (λ e. other (same-rate e))
 
 -- a useful bucket is lower at 0 than a flatter one
-burst-below : {f : List Bucket} {k j : Bucket} → Useful f k → j ∈ f → j .rate < k .rate → k .burst < j .burst
+pub burst-below : {f : List Bucket} {k j : Bucket} → Useful f k → j ∈ f → j .rate < k .rate → k .burst < j .burst
 burst-below {k = k} {j} u m h = below-rises k j (u .p) (u .q) (le-of-lt h) (below-other u m (omega arith))
 
 -- A useful bucket between a steeper and a flatter one:
