@@ -8,7 +8,10 @@ use lib.Dec.{leb, ltb}
 use lib.ListN.{length, drop}
 use Rattle.meaning.specs.Curve.{Bucket, bucketAt, NormalForm}
 use Rattle.meaning.specs.Refusal.{AllInRange}
+use Rattle.meaning.specs.Server.{last}
+use Rattle.meaning.specs.ServerQuestions.{ServerInRange}
 use Rattle.checks.specs.Contracts.{nth}
+use Rattle.servers.specs.Contracts.{port}
 use Rattle.operations.specs.declared.gather.Next.{Next}
 
 -- The bucket of two numbers.
@@ -20,6 +23,12 @@ pub record Tested (f : List Bucket) : Type 0 where
   pub form : NormalForm f
   pub ranged : AllInRange f
   pub few : length f ≤ 64
+
+-- Such a curve at a server (rate, latency), which no line refuses either.
+pub record TestedPort (f : List Bucket) (rate latency : ℕ) : Type 0 where
+  pub curve : Tested f
+  pub bounded : last f .rate ≤ rate
+  pub server : ServerInRange (port rate latency)
 
 -- The least value at a tick of the buckets numbered, from 0, `from` and on and before `end`.
 pub record LeastOf (f : List Bucket) (t from end least : ℕ) : Type 0 where

@@ -6,4 +6,5 @@ pub mod curves;
 mod excess;
 mod gather;
 mod lowest;
+mod refusals;
 pub mod value;
