@@ -3,6 +3,7 @@ pub mod Walking
 pub mod Valuing
 pub mod Turning
 pub mod Refusing
+pub mod Bounding
 pub mod Merging
 pub mod Adding
 pub mod Pairing
