@@ -4,6 +4,7 @@ pub mod Valuing
 pub mod Turning
 pub mod Refusing
 pub mod Bounding
+pub mod Leaving
 pub mod Merging
 pub mod Adding
 pub mod Pairing
