@@ -1,7 +1,7 @@
 -- `value` gives the smaller of the refusals of its curve and its tick, or the curve's value there.
 -- Assumes nothing.
 use borrow.Author.Needs.{needs}
-use Rattle.operations.proofs.Least.{value-outcomes}
+use Rattle.operations.proofs.Valuing.{value-outcomes}
 use Rattle.operations.proofs.value.value.Statement.{statement}
 use Rattle.operations.proofs.value.value.Tie as tie
 
