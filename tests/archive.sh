@@ -27,12 +27,12 @@ build_archive() { # proves what the library needs, and writes the archive
   rt staticlib duchrelin || give_up "the library is not built"
 }
 
-build_program() { # build_program NAME: proves what it needs, and writes target/bin/NAME
-  built "target/bin/$1" && return
-  need rt
-  rm -f "target/bin/$1"
-  rt check "$1" || give_up "the program $1 is not built"
-  [ -x "target/bin/$1" ] || give_up "no program target/bin/$1"
+build_route() { # proves what the program route needs, and writes target/bin/route
+  built target/bin/route && return
+  need rt gcc
+  rm -f target/bin/route
+  CC=gcc programs/build || give_up "the program route is not built"
+  [ -x target/bin/route ] || give_up "no program target/bin/route"
 }
 
 run_tests() { # run_tests COMMAND..: its last line is 'N passed, M failed'; ends with 0 only if all passed. A call that never ends fails.

@@ -1,6 +1,6 @@
 """Runs the built program route: what it prints for good, refused, long, slow and endless inputs, and that it always ends.
 
-Called with the program's path, and 1 where its exit status is to be checked. Inputs are made, and those of the random campaign are
+Called with the program's path. Inputs are made, and those of the random campaign are
 answered, by the references in tests/compare. The last line is 'N passed, M failed'.
 """
 
@@ -18,7 +18,7 @@ import routes
 from profiles import curve_file, server_file
 from rules import BURST_END, LATENCY_END, MOST_SERVERS, Server
 
-PROGRAM, CHECK_STATUS = sys.argv[1], sys.argv[2] == "1"
+PROGRAM = sys.argv[1]
 ANSWERED, REFUSED, BROKEN = 0, 1, 2
 SECONDS = 20
 MEGABYTE = 1 << 20
@@ -79,10 +79,10 @@ def ended(process):
 
 
 def status_wrong(status, wanted):
-    """A program that was ended by a signal is wrong, and a status is where it is to be checked."""
+    """A program that was ended by a signal is wrong, and so is another status than the one wanted."""
     if status < 0:
         return f"ended by signal {-status}"
-    return f"status {status} and not {wanted}" if CHECK_STATUS and status != wanted else ""
+    return f"status {status} and not {wanted}" if status != wanted else ""
 
 
 def outcome_wrong(result, text):
