@@ -5,6 +5,7 @@ pub mod Turning
 pub mod Refusing
 pub mod Bounding
 pub mod Leaving
+pub mod Lining
 pub mod Merging
 pub mod Adding
 pub mod Pairing
