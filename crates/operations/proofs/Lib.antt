@@ -6,6 +6,7 @@ pub mod Refusing
 pub mod Bounding
 pub mod Leaving
 pub mod Lining
+pub mod Passing
 pub mod Merging
 pub mod Adding
 pub mod Pairing

@@ -22,7 +22,7 @@ use Rattle.operations.specs.Contracts.{bucket, Tested, lineAndLater}
 -- ---- The buckets by their numbers.
 
 -- there is the line, and a bucket for each that is left
-line-length :
+pub line-length :
     (f : List Bucket) (first rate burst latency : ℕ) → length (lineAndLater f first rate burst latency) ≡ length f - first + 1
 unfolding lineAndLater
 line-length f first rate burst latency = omega (arith, length-map (drop first f) (later latency), length-drop first f)
@@ -33,7 +33,7 @@ later-nth (k ∷ l) latency zero h = refl
 later-nth (k ∷ l) latency (suc i) h = later-nth l latency i (omega arith)
 
 -- the one numbered k, from 1, is the one numbered first + k - 1 of the curve, a latency later
-line-nth :
+pub line-nth :
     (f : List Bucket) (first rate burst latency k : ℕ) → 1 ≤ k → first + k - 1 < length f
     → nth (lineAndLater f first rate burst latency) k ≡ later latency (nth f (first + k - 1))
 unfolding lineAndLater

@@ -8,11 +8,12 @@ use lib.Dec.{leb, ltb}
 use lib.ListN.{length, drop}
 use Rattle.meaning.specs.Curve.{Bucket, bucketAt, NormalForm}
 use Rattle.meaning.specs.Refusal.{AllInRange}
-use Rattle.meaning.specs.Server.{later, last}
+use Rattle.meaning.specs.Server.{noServer, later, last}
 use Rattle.meaning.specs.ServerQuestions.{ServerInRange}
 use Rattle.checks.specs.Contracts.{nth}
-use Rattle.servers.specs.Contracts.{port}
+use Rattle.servers.specs.Contracts.{port, serverOf}
 use Rattle.operations.specs.declared.gather.Next.{Next}
+use Rattle.operations.specs.declared.hops.Hop.{Hop}
 
 -- The bucket of two numbers.
 abbrev pub bucket : ℕ → ℕ → Bucket
@@ -69,3 +70,11 @@ pub record NextOf (f g : List Bucket) (next : Next) : Type 0 where
       next .first ≡ true → (1 ≤ length f) × (merged f g ≡ bucket (next .rate) (next .burst) ∷ merged (drop 1 f) g)
   pub second-list :
       next .first ≡ false → (1 ≤ length g) × (merged f g ≡ bucket (next .rate) (next .burst) ∷ merged f (drop 1 g))
+
+-- A hop that is refused, with its number: no count, no figures and no server.
+pub record NoHop (code : ℕ) (hop : Hop) : Type 0 where
+  pub code-is : hop .code ≡ code
+  pub no-count : hop .count ≡ 0
+  pub no-backlog : hop .backlog ≡ 0
+  pub no-delay : hop .delay ≡ 0
+  pub no-server : serverOf (hop .server) ≡ noServer
