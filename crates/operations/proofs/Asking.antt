@@ -44,7 +44,7 @@ module _
         clear-or (λ r h. ⊎-elim (λ none. omega (arith, flat-length f)) (λ odd. odd (omega (arith, flat-length f))) (h .1))
         (λ r h. h .1 (rw buckets-flat all))
 
-    settled :
+    pub settled :
         {at room : ℕ} {before after : List ℕ} {code count : ℕ}
         → PartOutcome (settling (flat f)) at room before after code count → PartOutcome ask at room before after code count
     unfolding settling

@@ -5,6 +5,8 @@ pub mod Turning
 pub mod Refusing
 pub mod Bounding
 pub mod Leaving
+pub mod Lining
+pub mod Passing
 pub mod Merging
 pub mod Adding
 pub mod Pairing
