@@ -7,3 +7,4 @@ pub mod Slips
 pub mod Demands
 pub mod Bytes
 pub mod EveryInput
+pub mod Ports
