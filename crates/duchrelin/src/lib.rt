@@ -1,11 +1,12 @@
 // The operations for C, under the names that include/duchrelin.h declares. A list passes as a pointer and a count of numbers, a
 // result by value. Each function has the contract of the function that it calls, of a crate below.
 use operations::curves;
+use operations::ports;
 use operations::value;
 use servers::Server;
 ghost use Rattle.meaning.specs.Refusal.{Outcome};
 ghost use Rattle.meaning.specs.CurveQuestions.{normalising, lowering, summing, shaping, ValueOutcome};
-ghost use Rattle.meaning.specs.ServerQuestions.{JoinOutcome};
+ghost use Rattle.meaning.specs.ServerQuestions.{JoinOutcome, passing, BacklogOutcome, DelayOutcome, ResidualOutcome};
 ghost use Rattle.meaning.specs.Profile.{ReadOutcome, WriteCurveOutcome, WriteServerOutcome};
 ghost use Rattle.duchrelin.specs.Contracts.{port, serverIn, readingIn};
 
@@ -127,6 +128,56 @@ pub extern "C" fn duchrelin_join(rate: u64, latency: u64, next_rate: u64, next_l
         code: answer.code,
         rate: joined.rate,
         latency: joined.latency,
+    }
+}
+
+// The curve behind a server.
+#[no_mangle]
+pub extern "C" fn duchrelin_behind(curve: &[u64], rate: u64, latency: u64, out: &mut [u64]) -> duchrelin_answer
+    ensures { λ r. ⌜ Outcome (passing (now (curve .entry)) (port rate latency)) (now (out .entry)) (now (out .exit)) (r .code) (r .count) ⌝ }
+{
+    let answer = ports::behind(curve, Server { rate, latency }, out);
+    duchrelin_answer {
+        code: answer.code,
+        count: answer.count,
+    }
+}
+
+// The most bits that wait at a server.
+#[no_mangle]
+pub extern "C" fn duchrelin_backlog(curve: &[u64], rate: u64, latency: u64) -> duchrelin_figure
+    ensures { λ r. ⌜ BacklogOutcome (now (curve .entry)) (port rate latency) (r .code) (r .figure) ⌝ }
+{
+    let answer = ports::backlog(curve, Server { rate, latency });
+    duchrelin_figure {
+        code: answer.code,
+        figure: answer.figure,
+    }
+}
+
+// The ticks within which all is served.
+#[no_mangle]
+pub extern "C" fn duchrelin_delay(curve: &[u64], rate: u64, latency: u64) -> duchrelin_figure
+    ensures { λ r. ⌜ DelayOutcome (now (curve .entry)) (port rate latency) (r .code) (r .figure) ⌝ }
+{
+    let answer = ports::delay(curve, Server { rate, latency });
+    duchrelin_figure {
+        code: answer.code,
+        figure: answer.figure,
+    }
+}
+
+// The server that is left beside cross traffic.
+#[no_mangle]
+pub extern "C" fn duchrelin_residual(rate: u64, latency: u64, cross: &[u64]) -> duchrelin_server
+    ensures { λ r. ⌜ ResidualOutcome (now (cross .entry)) (port rate latency) (r .code) (serverIn r) ⌝ }
+{
+    let answer = ports::residual(Server { rate, latency }, cross);
+    let left = answer.server;
+    duchrelin_server {
+        code: answer.code,
+        rate: left.rate,
+        latency: left.latency,
     }
 }
 

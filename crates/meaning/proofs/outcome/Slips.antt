@@ -15,9 +15,9 @@ use Rattle.meaning.specs.Figures.{C}
 use Rattle.meaning.specs.Refusal.{Refusal, LIST, COUNT, RANGE, FORM, LARGE, ROOM, number, Lines, _or_, Wins, Clear, Verdict, Uneven, listLines, curveLines, TooLarge, answerLines, over, Question, allLines, Outcome, part, PartOutcome, FigureOutcome}
 use Rattle.meaning.specs.CurveQuestions.{normalising, lowering, summing}
 use Rattle.meaning.proofs.Order.{le-or-lt}
-use Rattle.meaning.proofs.outcome.Outcomes.{From, from-when, from-or, three-parts}
+use Rattle.meaning.proofs.outcome.Outcomes.{Single, From, from-when, from-or, three-parts}
 use Rattle.meaning.proofs.Lists.{list-rate, falling-at, over-start, drop-behind, empty-same, list-length}
-use Rattle.meaning.proofs.outcome.Answers.{AsksNormal, single-normal, code-zero, code-wins, wins-code, outcome-code, curve-up-to, AnsweredList, answered-list, answered-length, outcome-length, only-answered}
+use Rattle.meaning.proofs.outcome.Answers.{AsksNormal, code-zero, code-wins, wins-code, outcome-code, curve-up-to, AnsweredList, answered-list, answered-length, outcome-length, only-answered}
 use Rattle.meaning.proofs.outcome.Known.{p1-raw, p1-outcome, p2-raw, p2-outcome, p3-raw, p3-outcome}
 
 -- ---- One bucket past the part.
@@ -235,14 +235,15 @@ fixed-reply room o o′ =
     let less : length (listOf C) ≤ length (listOf (buckets p3-raw)) = rw (list-length, list-length) (lit≤ tt) in
     omega (arith, p1-outcome .with-room (omega (arith, less)) o .figure-same, p3-outcome .with-room room o′ .figure-same)
 
+-- A question that one curve answers, as those over curves and behind are:
 module _
-    {ask : Question} {raw f : List Bucket} (asks : AsksNormal ask raw) (right : ask .Answer f) {before : List ℕ} {count : ℕ}
+    (ask : Question) (f : List Bucket) (one : Single (ask .Answer)) (right : ask .Answer f) {before : List ℕ} {count : ℕ}
   where
     -- what is answered is the answer
     answered-curve : {after : List ℕ} → Outcome ask before after 0 count → (count ≡ length f) × (after ≡ over (listOf f) before)
     answered-curve o =
         let a = answered-list o in
-        let e = single-normal asks _ f (a .right) right in
+        let e = one _ f (a .right) right in
         (a .count-is ∙ ap length e, a .written ∙ ap (λ (l : List ℕ). over l before) (sym (a .numbers) ∙ ap listOf e))
 
     -- one that writes nothing: code 0 over a list that stays, though it does not begin with the answer
