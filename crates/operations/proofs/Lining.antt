@@ -16,7 +16,7 @@ use Rattle.meaning.specs.Refusal.{InRange, over}
 use Rattle.meaning.proofs.Lists.{at-inside, flat-length}
 use Rattle.checks.specs.Contracts.{nth}
 use Rattle.settle.proofs.Copying.{Copied}
-use Rattle.settle.proofs.Filling.{Filling, filling-start, filling-rate-fits, filling-burst-fits, filling-rate-place, filling-burst-place, filling-step, filling-end, filling-kept}
+use Rattle.settle.proofs.Filling.{Filling, filling-rate-fits, filling-burst-fits, filling-rate-place, filling-burst-place, filling-step, filling-end, filling-kept}
 use Rattle.operations.specs.Contracts.{bucket, Tested, lineAndLater}
 
 -- ---- The buckets by their numbers.

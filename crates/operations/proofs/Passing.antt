@@ -1,15 +1,15 @@
 -- From what `settle` leaves over the raw buckets of a curve behind a server to the outcome of behind, and to that of a hop.
 -- Assumes nothing.
-use mathlib.Core.Path.{_≡_, refl, sym, _∙_, ap, subst}
+use mathlib.Core.Path.{_≡_, refl, sym, _∙_, ap}
 use mathlib.Core.Logic.{inl, inr}
-use mathlib.Core.List.{List, [], _∷_, _++_, List·Memᴰ·head, List·Memᴰ·append-cases, List·Memᴰ·eq-of-singleton, Memᴰ·append-left, Memᴰ·append-right}
-use Prim.Native.Nat.{ℕ, _+_, _-_, _*_, _^_, _≤_, _<_}
+use mathlib.Core.List.{List, List·Memᴰ·head, List·Memᴰ·append-cases, List·Memᴰ·eq-of-singleton, Memᴰ·append-left, Memᴰ·append-right}
+use Prim.Native.Nat.{ℕ, _+_, _-_, _*_, _≤_, _<_}
 use native.Mathlib.Nat.{le-of-lt, mul-le-mul}
 use native.Mathlib.Omega.{arith}
-use lib.ListN.{length, length-drop}
+use lib.ListN.{length}
 use Rattle.meaning.specs.Curve.{Bucket, _∈_, flat, curveOf, NormalOf}
 use Rattle.meaning.specs.Server.{Server, noServer, later, slower, Excess, Behind, Backlog, Delay}
-use Rattle.meaning.specs.Refusal.{Verdict, Within, PartOutcome}
+use Rattle.meaning.specs.Refusal.{Verdict, PartOutcome}
 use Rattle.meaning.specs.ServerQuestions.{portLines, passing, HopOutcome, HopPartOutcome}
 use Rattle.meaning.proofs.Lists.{at-inside, inside-at}
 use Rattle.meaning.proofs.Order.{le-or-lt}
@@ -23,15 +23,12 @@ use Rattle.meaning.proofs.outcome.Slips.{refusal-keeps-table}
 use Rattle.checks.specs.Contracts.{nth}
 use Rattle.settle.specs.Contracts.{AllWide, settling}
 use Rattle.servers.specs.Contracts.{port}
-use Rattle.operations.specs.Contracts.{bucket, TestedPort, FirstSlow, lineAndLater}
-use Rattle.operations.proofs.Turning.{slow-from}
+use Rattle.operations.specs.Contracts.{TestedPort, FirstSlow, lineAndLater}
+use Rattle.operations.proofs.Turning.{nowhere, slow-from}
 use Rattle.operations.proofs.Refusing.{port-clear, tested-port}
 use Rattle.operations.proofs.Bounding.{excess-small}
 use Rattle.operations.proofs.Lining.{line-length, line-nth}
 use Rattle.operations.proofs.Asking.{settled}
-
-abbrev nowhere : Bucket
-nowhere = record { rate = 0; burst = 0 }
 
 -- ---- The raw buckets are those of the definition, in another order.
 

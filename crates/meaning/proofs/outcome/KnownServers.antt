@@ -1,15 +1,15 @@
 -- The figures P5 to P10 and that of join, as outcomes: each is the only outcome of its question.
 -- Assumes nothing.
-use mathlib.Core.Path.{_≡_, refl, sym, _∙_}
+use mathlib.Core.Path.{_≡_, refl}
 use mathlib.Core.List.{List, [], _∷_}
 use Prim.Native.Nat.{ℕ, _-_, _^_, _≤_, _<_}
 use native.Mathlib.Omega.{arith}
 use lib.Dec.{lit≤}
 use lib.ListN.{length}
-use Rattle.meaning.specs.Curve.{Bucket, buckets, flat, curveOf, listOf, NormalForm}
+use Rattle.meaning.specs.Curve.{Bucket, buckets, curveOf, listOf, NormalForm}
 use Rattle.meaning.specs.Server.{Server, noServer, join, last, Behind, Backlog, Delay, Residual}
 use Rattle.meaning.specs.Refusal.{LARGE, number, Clear, accepted, curveLines, over, Outcome, FigureOutcome}
-use Rattle.meaning.specs.ServerQuestions.{ServerInRange, serverLines, portLines, passing, BacklogOutcome, DelayOutcome, HopOutcome, ServerOutcome, JoinOutcome, ResidualOutcome}
+use Rattle.meaning.specs.ServerQuestions.{ServerInRange, portLines, passing, BacklogOutcome, DelayOutcome, HopOutcome, ServerOutcome, JoinOutcome, ResidualOutcome}
 use Rattle.meaning.specs.Computed.{isNormal}
 use Rattle.meaning.specs.Figures.{C, port}
 use Rattle.meaning.proofs.Lists.{curve-list, EachInRange}

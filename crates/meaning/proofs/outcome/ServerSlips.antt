@@ -4,26 +4,25 @@
 use mathlib.Core.Path.{_≡_, refl, sym, _∙_, ap}
 use mathlib.Core.Logic.{_≢_}
 use mathlib.Core.List.{List, [], _∷_}
-use Prim.Native.Nat.{ℕ, _+_, _≤_, _<_, min}
-use native.Mathlib.Nat.{min-eq-right, le-of-lt}
+use Prim.Native.Nat.{ℕ, _≤_, _<_, min}
 use native.Mathlib.Omega.{arith}
 use lib.Dec.{lit≤}
 use lib.ListN.{length, take, getD}
 use Rattle.meaning.specs.Curve.{Bucket, buckets, flat, curveOf, listOf, NormalForm, reads, valueAt}
-use Rattle.meaning.specs.Server.{Server, join, last, slower, Delay}
-use Rattle.meaning.specs.Refusal.{UNBOUNDED, Clear, curveLines, over, Question, Outcome}
+use Rattle.meaning.specs.Server.{Server, join, last, slower}
+use Rattle.meaning.specs.Refusal.{Clear, curveLines, over, Question, Outcome}
 use Rattle.meaning.specs.ServerQuestions.{ServerInRange, portLines, passing, BacklogOutcome, DelayOutcome, JoinOutcome, ResidualOutcome}
-use Rattle.meaning.specs.Computed.{isNormal, normal, behind, backlog, delay}
+use Rattle.meaning.specs.Computed.{isNormal, normal, behind, backlog}
 use Rattle.meaning.specs.Figures.{C, port}
-use Rattle.meaning.proofs.Lists.{over-start, EachInRange}
+use Rattle.meaning.proofs.Lists.{over-start}
 use Rattle.meaning.proofs.curve.Neighbours.{neighbours-sound}
 use Rattle.meaning.proofs.server.Behind.{behind-is, backlog-is}
-use Rattle.meaning.proofs.server.Delay.{delay-is, delay-of-nothing}
+use Rattle.meaning.proofs.server.Delay.{delay-of-nothing}
 use Rattle.meaning.proofs.server.Joining.{smallest-unique}
 use Rattle.meaning.proofs.outcome.Outcomes.{clear-or}
 use Rattle.meaning.proofs.outcome.Answers.{OnlyAnswer, only-answered, figure-code, code-zero, figure-answered}
 use Rattle.meaning.proofs.outcome.Demands.{port-form, answered-join, unbounded-residual}
-use Rattle.meaning.proofs.outcome.KnownServers.{OnlyFigure, only-behind, only-backlog, only-delay, p5-outcome, p5-backlog, p5-delay, p6-outcome, p10-outcome}
+use Rattle.meaning.proofs.outcome.KnownServers.{OnlyFigure, only-behind, only-backlog, p5-outcome, p5-backlog, p5-delay, p6-outcome, p10-outcome}
 
 -- a list of the right length that is not the only answer is not answered
 wrong-list :
