@@ -32,19 +32,20 @@ use Rattle.meaning.proofs.profile.RoundTrip.{ReadsBack, read-back-curve
 -- A curve in normal form, that is not too large, so that no line refuses its list.
 record Sound (f : List Bucket) : Type 0 where
   form : NormalForm f
-  fits : (length f ≤ 64) × EachInRange f
+  ranged : EachInRange f
+  few : length f ≤ 64
 
 sound-lines : {f : List Bucket} → Sound f → Clear (curveLines (listOf f))
-sound-lines {f} c = sound-clear f (c .form) (c .fits)
+sound-lines {f} c = sound-clear f (c .form) (all-in-range f (c .ranged)) (c .few)
 
 -- the curves of the table: C, and those of one bucket
 c-sound : Sound C
 unfolding buckets isNormal
-c-sound = record { form = neighbours-sound C refl; fits = omega arith }
+c-sound = record { form = neighbours-sound C refl; ranged = omega arith; few = lit≤ tt }
 
 one-bucket : (r b : ℕ) → (r < 2 ^ 20) × (b < 2 ^ 40) → Sound (buckets (r ∷ b ∷ []))
 unfolding buckets isNormal
-one-bucket r b h = record { form = neighbours-sound (buckets (r ∷ b ∷ [])) refl; fits = omega arith }
+one-bucket r b h = record { form = neighbours-sound (buckets (r ∷ b ∷ [])) refl; ranged = omega arith; few = lit≤ tt }
 
 -- An input begins with a profile: it holds the profile, its bytes are the profile's file, and then comes the rest.
 record Begins (input : List ℕ) (p : Profile) (rest : List ℕ) : Type 0 where
@@ -98,7 +99,7 @@ first-curve :
     {f : List Bucket} {input rest : List ℕ} {report : Report} → Sound f → Begins input (curve f) rest
     → Onward f [] none f rest report → Reported input report
 first-curve {f} c b on =
-    Reported.from-curve (due-clear IsCurve tt (read-back-curve f (c .form) (all-in-range f (c .fits .1)) (c .fits .0)) b)
+    Reported.from-curve (due-clear IsCurve tt (read-back-curve f (c .form) (all-in-range f (c .ranged)) (c .few)) b)
     (rw (b .holds, b .after) on)
 
 -- a hop of numbers: a curve and a server, with the figures and the curve behind

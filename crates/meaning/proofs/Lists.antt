@@ -45,6 +45,13 @@ unfolding buckets flat
 buckets-flat [] = refl
 buckets-flat (k ∷ f) = ap (λ (g : List Bucket). k ∷ g) (buckets-flat f)
 
+-- the numbers of the buckets of a list that comes out even are the list
+pub flat-buckets : (l : List ℕ) → length l % 2 ≡ 0 → flat (buckets l) ≡ l
+unfolding buckets flat
+flat-buckets [] even = refl
+flat-buckets (r ∷ []) even = absurd (omega arith)
+flat-buckets (r ∷ b ∷ l) even = ap (λ (m : List ℕ). r ∷ b ∷ m) (flat-buckets l (omega arith))
+
 -- ---- A curve and its list.
 
 -- each bucket takes its numbers, and a list that does not come out even has more
@@ -61,6 +68,11 @@ list-length f = flat-length f
 pub curve-list : (f : List Bucket) → curveOf (listOf f) ≡ f
 unfolding curveOf listOf
 curve-list f = buckets-flat f
+
+-- the list of a list's curve is the list, where it comes out even
+pub list-curve : (l : List ℕ) → length l % width ≡ 0 → listOf (curveOf l) ≡ l
+unfolding curveOf listOf
+list-curve l even = flat-buckets l even
 
 -- ---- Buckets by their positions.
 

@@ -5,3 +5,7 @@ pub mod Files
 pub mod RoundTrip
 pub mod Outcomes
 pub mod Decided
+pub mod Again
+pub mod Refusals
+pub mod Known
+pub mod Slips

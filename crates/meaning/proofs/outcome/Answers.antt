@@ -23,7 +23,7 @@ use Rattle.meaning.proofs.curve.Neighbours.{neighbours-sound}
 use Rattle.meaning.proofs.outcome.Stable.{range-stable, normal-stable}
 use Rattle.meaning.proofs.curve.Curves.{value-both, value-pairs}
 use Rattle.meaning.proofs.outcome.Outcomes.{number-positive, clear-or, wins-once, Same, Single, one-outcome, one-part-outcome, one-figure, UpTo, up-to-when, up-to-or, no-room, written-out}
-use Rattle.meaning.proofs.Lists.{buckets-use, curve-use, list-length, curve-list, EachInRange, all-in-range, over-start, over-beyond, over-length, empty-same}
+use Rattle.meaning.proofs.Lists.{buckets-use, curve-use, list-length, curve-list, list-curve, EachInRange, all-in-range, over-start, over-beyond, over-length, empty-same}
 
 -- ---- One outcome.
 
@@ -137,10 +137,14 @@ raw-some l clear =
 pub clear-form : (f : List ℕ) → Clear (curveLines f) → NormalForm (curveOf f)
 clear-form f clear = normal-stable (λ out. clear FORM (inr (refl, out)))
 
--- and is not too large
+-- it is not too large,
 pub clear-fits : (f : List ℕ) → Clear (curveLines f) → TooLarge (curveOf f) → ⊥
 clear-fits f clear (inl many) = clear COUNT (inl (inl (inr (refl, many))))
 clear-fits f clear (inr out) = clear RANGE (inl (inr (refl, out)))
+
+-- and its list has its numbers for each bucket, and no more
+pub clear-list : (f : List ℕ) → Clear (curveLines f) → listOf (curveOf f) ≡ f
+clear-list f clear = list-curve f (not-apart (λ e. clear LIST (inl (inl (inl (refl, inr e))))))
 
 -- two curves that are not refused are both in normal form
 pub both-form : (f g : List ℕ) → Clear (curveLines f or curveLines g) → NormalForm (curveOf f) × NormalForm (curveOf g)
@@ -395,18 +399,13 @@ list-clear {f = f} t r (inr h) = h .1 (all-in-range f (t .ranged))
 pub curve-clear : (l : List ℕ) → Taken width l (curveOf l) → isNormal (curveOf l) ≡ true → Clear (curveLines l)
 curve-clear l t form = clear-or (list-clear t) (λ r h. h .1 (neighbours-sound (curveOf l) form))
 
--- none holds of the list of a curve in normal form that is not too large
-pub sound-clear : (f : List Bucket) → NormalForm f → (length f ≤ 64) × EachInRange f → Clear (curveLines (listOf f))
-sound-clear f form fits = clear-or (list-clear taken) (λ r h. h .1 (rw curve-list form))
-  where
-    taken : Taken width (listOf f) (curveOf (listOf f))
-    taken =
-        record {
-          filled = omega (arith, list-length f, form .some);
-          even = omega (arith, list-length f);
-          few = rw curve-list (fits .0);
-          ranged = rw curve-list (fits .1);
-        }
+-- none holds of the list of a curve in normal form, in range and of at most 64 buckets
+pub sound-clear : (f : List Bucket) → NormalForm f → AllInRange f → length f ≤ 64 → Clear (curveLines (listOf f))
+sound-clear f form ranged few r (inl (inl (inl (e, inl none)))) = omega (arith, list-length f, form .some)
+sound-clear f form ranged few r (inl (inl (inl (e, inr uneven)))) = omega (arith, list-length f)
+sound-clear f form ranged few r (inl (inl (inr h))) = omega (arith, h .1, ap length (curve-list f))
+sound-clear f form ranged few r (inl (inr h)) = h .1 (rw curve-list ranged)
+sound-clear f form ranged few r (inr h) = h .1 (rw curve-list form)
 
 -- The only outcomes of a question: where the list has room, code 0, this count, and these numbers written from its start; where
 -- it has not, ROOM.

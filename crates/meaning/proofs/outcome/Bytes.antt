@@ -17,6 +17,7 @@ use Rattle.meaning.proofs.outcome.Answers.{wins-code}
 
 -- ---- One outcome.
 
+-- what is written is written once
 filled-once :
     {ask : BytesQuestion} {before after after′ : List ℕ} {code count code′ count′ : ℕ}
     → Single (ask .Answer) → Filled ask before after code count → Filled ask before after′ code′ count′
@@ -114,10 +115,10 @@ bytes-code (BytesOutcome.filled v) = accepted (v .clear) (v .code-is)
 
 -- What wins among the operands' lines is the code: ROOM comes after them all.
 pub bytes-wins :
-    {ask : BytesQuestion} {before after : List ℕ} {code count : ℕ} {r : Refusal} → Wins (ask .operands) r
-    → number r ≤ 10 → BytesOutcome ask before after code count → code ≡ number r
+    {ask : BytesQuestion} {before after : List ℕ} {code count : ℕ} {r : Refusal} → BytesOutcome ask before after code count
+    → number r ≤ 10 → Wins (ask .operands) r → code ≡ number r
 unfolding number
-bytes-wins w last o =
+bytes-wins o last w =
     wins-code (record { holds = inl (w .holds); smallest = from-or (w .smallest) (from-when ROOM last) }) (bytes-code o)
 
 -- A refusal leaves the lent buffer, and its count is 0.
@@ -126,6 +127,25 @@ pub refusal-keeps-bytes :
     → (after ≡ before) × (count ≡ 0)
 refusal-keeps-bytes (BytesOutcome.refused v) some = (v .kept, v .figure-is)
 refusal-keeps-bytes (BytesOutcome.filled v) some = absurd (some (v .code-is))
+
+-- The only outcome of a question: refused with this number, whatever buffer is lent, which stays.
+pub record OnlyRefusedBytes (ask : BytesQuestion) (code : ℕ) : Type 0 where
+  pub whatever-buffer :
+      {before after : List ℕ} {code′ count : ℕ} → BytesOutcome ask before after code′ count → Same code′ count code 0 after before
+
+-- where an operand is refused it is so
+pub only-refused-bytes :
+    {ask : BytesQuestion} {code : ℕ} → UpTo 9 (ask .operands) → 1 ≤ code → Verdict (ask .operands) code
+    → OnlyRefusedBytes ask code
+only-refused-bytes upto some (accepted clear e) = absurd (omega arith)
+only-refused-bytes upto some (rejected r w e) =
+    record {
+      whatever-buffer =
+          λ o.
+          let number-is = bytes-wins o (omega (arith, upto r (w .holds))) w in
+          let kept = refusal-keeps-bytes o (omega arith) in
+          record { code-same = number-is ∙ sym e; figure-same = kept .1; after-same = kept .0 };
+    }
 
 -- Bytes that are answered: no line holds of the operands, they are the answer, the buffer has room for them, they stand at its
 -- start, and the bytes beyond them stay.
@@ -137,6 +157,7 @@ pub record FilledBytes (ask : BytesQuestion) (before after : List ℕ) (count : 
   pub written : after ≡ over bytes before
   pub beyond : drop count after ≡ drop count before
 
+-- such is what is written
 read-filled :
     {ask : BytesQuestion} {before after : List ℕ} {code count : ℕ} → Filled ask before after code count
     → FilledBytes ask before after count (take count after)

@@ -5,14 +5,14 @@
 use mathlib.Core.Path.{_≡_, refl, sym, _∙_, ap}
 use mathlib.Core.Logic.{_⊎_, inl, inr, _≢_}
 use mathlib.Core.List.{List, [], _∷_, _++_, append-assoc}
-use Prim.Native.Nat.{ℕ, _+_, _-_, _*_, _%_, _≤_, _<_}
+use Prim.Native.Nat.{ℕ, _+_, _-_, _*_, _≤_, _<_}
 use native.Mathlib.Omega.{arith}
 use lib.Dec.{lit≤}
 use lib.ListN.{length, take, drop, getD, length-append, length-take, length-drop, List·getD-append}
 use lib.Seq.{take-at, length-take-le, getD-take, getD-drop}
 use Rattle.meaning.specs.Curve.{Bucket, buckets, width, curveOf, listOf}
 use Rattle.meaning.specs.Figures.{C}
-use Rattle.meaning.specs.Refusal.{Refusal, LIST, COUNT, RANGE, FORM, LARGE, ROOM, number, Lines, _or_, Wins, Clear, Verdict, Uneven, listLines, rawLines, curveLines, TooLarge, answerLines, over, Question, allLines, Outcome, part, PartOutcome, FigureOutcome}
+use Rattle.meaning.specs.Refusal.{Refusal, LIST, COUNT, RANGE, FORM, LARGE, ROOM, number, Lines, _or_, Wins, Clear, Verdict, Uneven, listLines, curveLines, TooLarge, answerLines, over, Question, allLines, Outcome, part, PartOutcome, FigureOutcome}
 use Rattle.meaning.specs.CurveQuestions.{normalising, lowering, summing}
 use Rattle.meaning.proofs.Order.{le-or-lt}
 use Rattle.meaning.proofs.outcome.Outcomes.{From, from-when, from-or, three-parts}
@@ -157,7 +157,7 @@ unfolding number
 answer-from Answer h = from-or (from-when LARGE h) (from-when ROOM (omega arith))
 
 -- a list that is empty or uneven is LIST, which nothing goes before
-list-wins : (l : List ℕ) → Uneven width l → Wins (curveLines l) LIST
+pub list-wins : (l : List ℕ) → Uneven width l → Wins (curveLines l) LIST
 unfolding number
 list-wins l h = record { holds = inl (inl (inl (refl, h))); smallest = curve-from l }
 

@@ -19,7 +19,7 @@ use Rattle.meaning.proofs.outcome.Demands.{server-up-to}
 use Rattle.meaning.proofs.outcome.EveryInput.{Decided, decide-line, decide-or, decide-either, curve-decided, server-decided, HasOutcome, HasBytes, part-outcome, curve-outcome, bytes-outcome}
 use Rattle.meaning.proofs.profile.Bits.{one-spelt, spelt-one}
 use Rattle.meaning.proofs.profile.Files.{binary-padding}
-use Rattle.meaning.proofs.profile.Outcomes.{single-reading, single-writing, file-up-to}
+use Rattle.meaning.proofs.profile.Outcomes.{writingCurve, writingServer, single-reading, single-writing, file-up-to}
 
 -- the lines of a profile can be decided,
 pub profile-decided : (p : Profile) → Decided (profileLines p)
@@ -95,9 +95,9 @@ write-outcome operands p before decided upto =
     (λ clear. (written edition p, refl))
 
 -- of a curve,
-pub write-curve-has-outcome : (l before : List ℕ) → HasBytes (writing (curveLines l) (curve (curveOf l))) before
+pub write-curve-has-outcome : (l before : List ℕ) → HasBytes (writingCurve l) before
 write-curve-has-outcome l before = write-outcome (curveLines l) (curve (curveOf l)) before (curve-decided l) (curve-up-to l)
 
 -- and of a server
-pub write-server-has-outcome : (s : Server) (before : List ℕ) → HasBytes (writing (serverLines s) (server s)) before
+pub write-server-has-outcome : (s : Server) (before : List ℕ) → HasBytes (writingServer s) before
 write-server-has-outcome s before = write-outcome (serverLines s) (server s) before (server-decided s) (server-up-to s)

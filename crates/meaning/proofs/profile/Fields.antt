@@ -9,11 +9,11 @@ use native.Mathlib.Nat.{lt-of-lt-of-le, add-zero}
 use native.Mathlib.Numerals.{add-one}
 use native.Mathlib.Omega.{arith}
 use lib.ListN.{List·getD-append, getD, length, take, drop, length-take, length-drop, take-append-drop}
-use lib.Seq.{take-suc, getD-drop, getD-append-add, drop-drop}
+use lib.Seq.{take-suc, take-append-le, drop-append-le, getD-drop, getD-append-add, drop-drop}
 use lib.Pow.{pow-mono}
-use Rattle.meaning.specs.Profile.{bitsOf, Field, _bits_, packed, fileBits, field}
+use Rattle.meaning.specs.Profile.{bitsOf, spelt, Field, _bits_, packed, fileBits, field}
 use Rattle.meaning.proofs.Order.{le-or-lt}
-use Rattle.meaning.proofs.profile.Bits.{binary-take, binary-drop, length-bits, spelt-fits, spelt-bits, bits-at, bits-taken, bits-dropped, spelt-next, bit-of-number, length-packed, binary-file, length-file-bits}
+use Rattle.meaning.proofs.profile.Bits.{binary-take, binary-drop, length-bits, spelt-fits, spelt-bits, bits-at, bits-taken, bits-dropped, spelt-next, bit-of-number, length-packed, binary-file, length-file-bits, file-bits-append}
 
 -- The fields stand in a file one after the other, the first beginning at a bit.
 abbrev pub Stands : List ℕ → ℕ → List Field → Type 0
@@ -69,8 +69,21 @@ field-next file at w h =
     let inside : w < length (drop at (fileBits file)) = omega (arith, length-drop at (fileBits file), length-file-bits file) in
     rw (add-one, take-suc (drop at (fileBits file)) w 0, spelt-next, getD-drop)
 
+-- a field that lies in a file is the same whatever stands behind the file
+pub field-append : (file rest : List ℕ) (at w : ℕ) → at + w ≤ 8 * length file → field (file ++ rest) at w ≡ field file at w
+unfolding field
+field-append file rest at w h =
+    let all = fileBits file in
+    let inside : at ≤ length all = omega (arith, length-file-bits file) in
+    let within : w ≤ length (drop at all) = omega (arith, length-drop at all, length-file-bits file) in
+    ap (λ (l : List ℕ). spelt (take w l))
+    (ap (drop at) (file-bits-append file rest) ∙ drop-append-le at all (fileBits rest) inside)
+    ∙ ap spelt (take-append-le w (drop at all) (fileBits rest) within)
+
 -- the bit of a file at a position is one of its byte's
-pub bit-at : (file : List ℕ) (at : ℕ) → at < 8 * length file → getD (fileBits file) at 0 ≡ getD file (at / 8) 0 / 2 ^ (7 - at % 8) % 2
+pub bit-at :
+    (file : List ℕ) (at : ℕ) → at < 8 * length file
+    → getD (fileBits file) at 0 ≡ getD file (at / 8) 0 / 2 ^ (7 - at % 8) % 2
 unfolding fileBits packed
 bit-at [] at h = absurd (omega arith)
 bit-at (x ∷ file) at h =

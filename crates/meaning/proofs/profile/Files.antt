@@ -1,6 +1,6 @@
 -- Profiles and their files: how many bits and bytes a profile takes, what its file's bits are, and which profile a file holds.
 -- Assumes nothing.
-use mathlib.Core.Path.{_≡_, refl, _∙_, ap}
+use mathlib.Core.Path.{_≡_, refl, sym, _∙_, ap, ap₂}
 use mathlib.Core.Logic.{_≢_}
 use mathlib.Core.List.{List, [], _∷_, _++_}
 use Prim.Native.Nat.{ℕ, zero, suc, _+_, _-_, _*_, _/_, _≤_, _<_}
@@ -19,7 +19,7 @@ use Rattle.meaning.proofs.Lists.{cons-each}
 use Rattle.meaning.proofs.curve.Lowest.{same-bucket}
 use Rattle.meaning.proofs.server.Joining.{same-server}
 use Rattle.meaning.proofs.profile.Bits.{Binary, binary-append, binary-drop, zeroBits, binary-zeros, length-packed, binary-packed, binary-file, length-file-bits, Bytes, bits-of-bytes, length-bytes, bytes-are-bytes}
-use Rattle.meaning.proofs.profile.Fields.{Stands, field-fits}
+use Rattle.meaning.proofs.profile.Fields.{Stands, field-fits, field-append}
 
 -- ---- The file of a profile.
 
@@ -32,11 +32,13 @@ abbrev pub padded : ℕ → Profile → List ℕ
 padded ed p = profileBits ed p ++ zeroBits (padWidth ed p)
 
 module _ (ed : ℕ) (p : Profile) where
+  -- they are bits,
   binary-padded : Binary (padded ed p)
   unfolding profileBits
   binary-padded =
       binary-append (profileBits ed p) (zeroBits (padWidth ed p)) (binary-packed (fields ed p)) (binary-zeros (padWidth ed p))
 
+  -- and come out even
   length-padded : length (padded ed p) ≡ 8 * byteCount ed p
   unfolding byteCount
   length-padded =
@@ -63,10 +65,12 @@ module _ (ed : ℕ) (p : Profile) where
 
 -- ---- How many bits and bytes.
 
+-- no field has no bit,
 no-bits : length (packed []) ≡ 0
 unfolding packed
 no-bits = refl
 
+-- and each bucket 60
 bucket-bits : (f : List Bucket) → length (packed (bucketFields f)) ≡ 60 * length f
 unfolding bucketFields
 bucket-bits [] = no-bits
@@ -128,6 +132,18 @@ buckets-in-next file at (suc n) =
     let further : at + 60 * suc n ≡ at + 60 + 60 * n = omega arith in
     rw further (ap (λ (f : List Bucket). bucketFrom file at ∷ f) (buckets-in-next file (at + 60) n))
 
+-- buckets that lie in a file are the same whatever stands behind the file
+buckets-append :
+    (file rest : List ℕ) (at n : ℕ) → at + 60 * n ≤ 8 * length file → bucketsIn (file ++ rest) at n ≡ bucketsIn file at n
+unfolding bucketsIn
+buckets-append file rest at zero h = refl
+buckets-append file rest at (suc n) h =
+    cc (
+      field-append file rest at 20 (omega arith),
+      field-append file rest (at + 20) 40 (omega arith),
+      buckets-append file rest (at + 60) n (omega arith),
+    )
+
 -- past the rate and the burst of a bucket
 past-bucket : (at : ℕ) → at + 20 + 40 ≡ at + 60
 past-bucket at = omega arith
@@ -161,6 +177,20 @@ module _ (file : List ℕ) where
   unfolding profileOf
   held-server e = rw (ne-eqb (kindIn file) curveKind e)
 
+  -- a curve takes the bytes that its count requires,
+  pub curve-taken : kindIn file ≡ curveKind → bytesTaken file ≡ (60 * (field file 8 6 + 1) + 21) / 8
+  unfolding bytesTaken byteCount
+  curve-taken e =
+      let n = field file 8 6 + 1 in
+      rw (held-curve e) (omega (arith, curve-bits (editionOf file) (bucketsIn file 14 n), length-buckets-in file 14 n))
+
+  -- and a server six
+  pub server-taken : kindIn file ≢ curveKind → bytesTaken file ≡ 6
+  unfolding bytesTaken byteCount
+  server-taken e =
+      let s : Server = record { rate = field file 8 20; latency = field file 28 20 } in
+      rw (held-server e) (omega (arith, server-bits (editionOf file) s))
+
   -- a file holds at most 64 buckets,
   pub held-few : length (bucketsOf (profileOf file)) ≤ 64
   held-few =
@@ -182,7 +212,9 @@ module _ (file : List ℕ) where
   unfolding fields kindIn
   standing-curve ed f some h =
       let count : field file 8 6 + 1 ≡ length f = omega (arith, h .1 .1 .0) in
-      held-curve (h .1 .0) ∙ ap (λ (n : ℕ). curve (bucketsIn file 14 n)) count ∙ ap curve (standing-buckets file 14 f (h .1 .1 .1))
+      held-curve (h .1 .0)
+      ∙ ap (λ (n : ℕ). curve (bucketsIn file 14 n)) count
+      ∙ ap curve (standing-buckets file 14 f (h .1 .1 .1))
 
   -- or a server
   pub standing-server : (ed : ℕ) (s : Server) → Stands file 0 (fields ed (server s)) → profileOf file ≡ server s
@@ -190,17 +222,19 @@ module _ (file : List ℕ) where
   standing-server ed s h =
       held-server (omega (arith, h .1 .0)) ∙ ap server (same-server (h .1 .1 .0) (h .1 .1 .1 .0))
 
-  -- the padding is bits, as many as there are up to the byte's end
+  -- the padding is bits,
   pub binary-padding : Binary (padding file)
   unfolding padding
   binary-padding = binary-drop (length (profileBits (editionOf file) (profileOf file))) (fileBits file) (binary-file file)
 
   module _ (whole : length file ≡ bytesTaken file) where
+    -- of a file of the byte count required, as many as there are up to the byte's end
     pub padding-width : length (padding file) ≡ padWidth (editionOf file) (profileOf file)
     unfolding padding bytesTaken
     padding-width =
         length-drop (length (profileBits (editionOf file) (profileOf file))) (fileBits file)
-        ∙ ap (λ (n : ℕ). n - length (profileBits (editionOf file) (profileOf file))) (length-file-bits file ∙ ap (λ (n : ℕ). 8 * n) whole)
+        ∙ ap (λ (n : ℕ). n - length (profileBits (editionOf file) (profileOf file)))
+        (length-file-bits file ∙ ap (λ (n : ℕ). 8 * n) whole)
 
     -- the padding of a file of the byte count required, as one more field
     pub padding-field :
@@ -209,3 +243,48 @@ module _ (file : List ℕ) where
     unfolding field padding
     padding-field =
         ap spelt (take-all (padWidth (editionOf file) (profileOf file)) (padding file) (omega (arith, padding-width)))
+
+-- ---- What stands behind a file.
+
+-- A file that has the bytes its header requires, and what stands behind it:
+module _ (file rest : List ℕ) (whole : bytesTaken file ≤ length file) where
+  -- (there are two bytes or more)
+  long-enough : 1 < length file
+  unfolding bytesTaken
+  long-enough = omega (arith, more-than-one-byte (editionOf file) (profileOf file))
+
+  -- the edition is the same,
+  pub edition-append : editionOf (file ++ rest) ≡ editionOf file
+  unfolding editionOf
+  edition-append = field-append file rest 0 4 (omega (arith, long-enough))
+
+  -- the kind,
+  pub kind-append : kindIn (file ++ rest) ≡ kindIn file
+  unfolding kindIn
+  kind-append = field-append file rest 4 4 (omega (arith, long-enough))
+
+  -- a curve is the same,
+  append-curve : kindIn file ≡ curveKind → profileOf (file ++ rest) ≡ profileOf file
+  append-curve e =
+      let inside : 14 + 60 * (field file 8 6 + 1) ≤ 8 * length file = omega (arith, curve-taken file e) in
+      held-curve (file ++ rest) (kind-append ∙ e)
+      ∙ ap (λ (m : ℕ). curve (bucketsIn (file ++ rest) 14 (m + 1))) (field-append file rest 8 6 (omega arith))
+      ∙ ap curve (buckets-append file rest 14 (field file 8 6 + 1) inside)
+      ∙ sym (held-curve file e)
+
+  -- and a server,
+  append-server : kindIn file ≢ curveKind → profileOf (file ++ rest) ≡ profileOf file
+  append-server e =
+      let inside : 6 ≤ length file = omega (arith, server-taken file e) in
+      held-server (file ++ rest) (λ k. e (sym kind-append ∙ k))
+      ∙ ap server (same-server (field-append file rest 8 20 (omega arith)) (field-append file rest 28 20 (omega arith)))
+      ∙ sym (held-server file e)
+
+  -- so the profile is,
+  pub held-append : profileOf (file ++ rest) ≡ profileOf file
+  held-append = elim (ℕ-discrete (kindIn file) curveKind) [ yes e ↦ append-curve e | no e ↦ append-server e ]
+
+  -- and the bytes that it takes
+  pub taken-append : bytesTaken (file ++ rest) ≡ bytesTaken file
+  unfolding bytesTaken
+  taken-append = ap₂ byteCount edition-append held-append

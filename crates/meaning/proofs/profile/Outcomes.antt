@@ -9,9 +9,10 @@ use native.Mathlib.Decide.{ℕ-discrete}
 use native.Mathlib.Omega.{arith}
 use lib.Dec.{lit≤}
 use lib.ListN.{length}
-use Rattle.meaning.specs.Curve.{listOf}
+use Rattle.meaning.specs.Curve.{flat, curveOf, listOf}
 use Rattle.meaning.specs.Server.{Server, noServer}
-use Rattle.meaning.specs.Refusal.{HEADER, LENGTH, PAD, RANGE, FORM, number, Lines, Clear, Verdict, TooLarge, over, part}
+use Rattle.meaning.specs.Refusal.{HEADER, LENGTH, PAD, RANGE, FORM, number, Lines, Clear, Verdict, TooLarge, curveLines, over, part, BytesQuestion}
+use Rattle.meaning.specs.ServerQuestions.{serverLines}
 use Rattle.meaning.specs.Profile.{Profile, curve, server, kindOf, profileOf, profileLines, fileLines, bucketsOf, serverIn, reading, Reading, Told, ReadOutcome, ReadPartOutcome, writing, WriteCurveOutcome, WriteServerOutcome}
 use Rattle.meaning.proofs.Order.{le-or-lt}
 use Rattle.meaning.proofs.outcome.Outcomes.{Same, Single, one-outcome, one-part-outcome, UpTo, up-to-when, up-to-or, refuse, no-room, written-out}
@@ -20,6 +21,14 @@ use Rattle.meaning.proofs.outcome.Slips.{refusal-keeps, refusal-keeps-t
 use Rattle.meaning.proofs.outcome.Demands.{server-up-to}
 use Rattle.meaning.proofs.outcome.Bytes.{one-bytes}
 use Rattle.meaning.proofs.profile.Files.{held-few, read-in-range}
+
+-- Writing a curve,
+abbrev pub writingCurve : List ℕ → BytesQuestion
+writingCurve l = writing (curveLines l) (curve (curveOf l))
+
+-- and writing a server.
+abbrev pub writingServer : Server → BytesQuestion
+writingServer s = writing (serverLines s) (server s)
 
 -- ---- One outcome.
 
@@ -33,7 +42,8 @@ pub single-writing : (operands : Lines) (p : Profile) → Single (writing operan
 unfolding writing
 single-writing operands p f g e e′ = e ∙ sym e′
 
--- What the caller gets to see of two readings is the same: the code, the kind, the count, the server, and the whole list or table.
+-- What the caller gets to see of two readings is the same: the code, the kind, the count, the server, and the whole list or
+-- table.
 pub record SameReading (x y : Reading) (after after′ : List ℕ) : Type 0 where
   pub code-same : x .code ≡ y .code
   pub kind-same : x .kind ≡ y .kind
@@ -116,6 +126,7 @@ readAs p = record { code = 0; kind = kindOf p; count = length (bucketsOf p); ser
 abbrev pub refusedAs : ℕ → Reading
 refusedAs code = record { code = code; kind = 0; count = 0; server = noServer }
 
+-- that is what a refusal tells
 told-refused : (file : List ℕ) {code : ℕ} → 1 ≤ code → Told file (refusedAs code)
 told-refused file some = record { accepted = λ e. absurd (omega arith); refused = λ _. (refl, refl) }
 
@@ -162,6 +173,23 @@ pub record OnlyRead (file : List ℕ) (p : Profile) : Type 0 where
       {before after : List ℕ} {x : Reading} → length before < length (listOf (bucketsOf p)) → ReadOutcome file before after x
       → SameReading x (refusedAs 10) after before
 
+-- what is read is this profile, whatever the room
+pub only-reading :
+    {file before after : List ℕ} {x : Reading} {p : Profile} → OnlyRead file p → ReadOutcome file before after x → x .code ≡ 0
+    → SameReading x (readAs p) after (over (listOf (bucketsOf p)) before)
+only-reading {before = before} {p = p} known o none =
+    elim (le-or-lt (length (listOf (bucketsOf p))) (length before)) [
+      | inl room ↦ known .with-room room o
+      | inr short ↦ absurd (omega (arith, known .without-room short o .code-same))
+    ]
+
+-- a server is read into any list, and the list stays
+pub only-server :
+    {file before after : List ℕ} {x : Reading} {s : Server} → OnlyRead file (server s) → ReadOutcome file before after x
+    → SameReading x (readAs (server s)) after before
+unfolding listOf flat over
+only-server known o = known .with-room (omega arith) o
+
 -- a file of which no line holds has these
 pub only-read : (file : List ℕ) → Clear (fileLines file) → OnlyRead file (profileOf file)
 only-read file clear =
@@ -170,11 +198,14 @@ only-read file clear =
       without-room = λ {before} short o. one-read o (read-short file before clear short);
     }
 
--- a file of which one holds has its number, whatever list is lent
-pub only-refused :
-    {file before after : List ℕ} {x : Reading} {code : ℕ} → 1 ≤ code → Verdict (fileLines file) code → ReadOutcome file before after x
-    → SameReading x (refusedAs code) after before
-only-refused {file} {before} some v o = one-read o (read-refused file before some v)
+-- The only outcome of reading a file: refused with this number, whatever list is lent, which stays.
+pub record OnlyRefused (file : List ℕ) (code : ℕ) : Type 0 where
+  pub whatever-list :
+      {before after : List ℕ} {x : Reading} → ReadOutcome file before after x → SameReading x (refusedAs code) after before
+
+-- a file of which a line holds has it
+pub only-refused : {file : List ℕ} {code : ℕ} → 1 ≤ code → Verdict (fileLines file) code → OnlyRefused file code
+only-refused {file} some v = record { whatever-list = λ {before} o. one-read o (read-refused file before some v) }
 
 -- ---- What a reading says.
 
@@ -202,20 +233,15 @@ refusal-keeps-read-part o some =
     let told = o .told .refused some in
     record { code-same = refl; kind-same = told .0; count-same = kept .1; server-same = told .1; after-same = kept .0 }
 
--- A file that is read: no line holds of it, the list has room, and what the reader tells and writes is the profile's.
+-- A file that is read: no line holds of it, and what the reader tells and writes is the profile's.
 pub record Read (file before after : List ℕ) (x : Reading) : Type 0 where
   pub clear : Clear (fileLines file)
-  pub room : length (listOf (bucketsOf (profileOf file))) ≤ length before
   pub told : SameReading x (readAs (profileOf file)) after (over (listOf (bucketsOf (profileOf file))) before)
 
 -- code 0 is such
-pub read-file : {file before after : List ℕ} {x : Reading} → ReadOutcome file before after x → x .code ≡ 0 → Read file before after x
+pub read-file :
+    {file before after : List ℕ} {x : Reading} → ReadOutcome file before after x → x .code ≡ 0 → Read file before after x
 unfolding reading
-read-file {file} {before} {after} {x} o none =
-    elim (le-or-lt (length (listOf (bucketsOf (profileOf file)))) (length before)) [
-      | inl room ↦ record { clear = clear; room = room; told = only-read file clear .with-room room o }
-      | inr short ↦ absurd (omega (arith, only-read file clear .without-room short o .code-same))
-    ]
-  where
-    clear : Clear (fileLines file)
-    clear r h = code-zero (outcome-code (o .list)) .0 none r (inl h)
+read-file {file} o none =
+    let clear : Clear (fileLines file) = λ r h. code-zero (outcome-code (o .list)) .0 none r (inl h) in
+    record { clear = clear; told = only-reading (only-read file clear) o none }

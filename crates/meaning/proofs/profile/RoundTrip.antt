@@ -20,6 +20,55 @@ use Rattle.meaning.proofs.profile.Bits.{zeroBits, zeros-no-one, no-one-
 use Rattle.meaning.proofs.profile.Fields.{Stands, Fits, packed-stand, stands-packed}
 use Rattle.meaning.proofs.profile.Files.{padWidth, padded, written-length, written-bits, more-than-one-byte, length-buckets-in, buckets-stand, held-curve, held-server, standing-curve, standing-server, binary-padding, padding-width}
 
+-- ---- The header, the length and the padding of a file.
+
+-- A file's header is right: it is not empty, its edition is 1, and its kind 1 or 2.
+pub record RightHeader (file : List ℕ) : Type 0 where
+  pub filled : 1 ≤ length file
+  -- its edition is 1,
+  pub first : editionOf file ≡ edition
+  pub kind : (kindIn file ≡ curveKind) ⊎ (kindIn file ≡ serverKind)
+
+module _ (file : List ℕ) where
+  -- HEADER then does not hold of it,
+  pub no-header :
+      RightHeader file → (length file ≡ 0) ⊎ (editionOf file ≢ edition) ⊎ ((kindIn file ≢ curveKind) × (kindIn file ≢ serverKind))
+      → ⊥
+  no-header header (inl e) = omega (arith, header .filled)
+  no-header header (inr (inl h)) = h (header .first)
+  no-header header (inr (inr h)) = elim (header .kind) [ inl e ↦ h .0 e | inr e ↦ h .1 e ]
+
+  -- nor does LENGTH of one of the byte count required
+  pub no-length :
+      length file ≡ bytesTaken file → (length file ≢ bytesTaken file) ⊎ ((kindIn file ≡ curveKind) × (length file ≡ 1)) → ⊥
+  unfolding bytesTaken
+  no-length whole (inl h) = h whole
+  no-length whole (inr h) = omega (arith, more-than-one-byte (editionOf file) (profileOf file))
+
+-- A file of which no line holds:
+module _ (file : List ℕ) (clear : Clear (fileLines file)) where
+  -- its byte count is the one required,
+  pub clear-whole : length file ≡ bytesTaken file
+  clear-whole = not-apart (λ h. clear LENGTH (inl (inl (inr (refl, inl h)))))
+
+  -- no padding bit is 1,
+  pub clear-padding : List·Memᴰ 1 (padding file) → ⊥
+  clear-padding m = clear PAD (inl (inr (refl, m)))
+
+  -- and its header is right
+  pub clear-header : RightHeader file
+  unfolding bytesTaken
+  clear-header =
+      record {
+        filled = omega (arith, clear-whole, more-than-one-byte (editionOf file) (profileOf file));
+        first = not-apart (λ h. clear HEADER (inl (inl (inl (refl, inr (inl h))))));
+        kind =
+            elim (ℕ-discrete (kindIn file) curveKind) [
+              | yes e ↦ inl e
+              | no other ↦ inr (not-apart (λ h. clear HEADER (inl (inl (inl (refl, inr (inr (other, h))))))))
+            ];
+      }
+
 -- ---- Read back.
 
 -- a profile whose numbers fit their fields stands in its file
@@ -39,9 +88,9 @@ unfolding fields kindIn
 kind-next file ed (curve f) h = h .1 .0
 kind-next file ed (server s) h = h .1 .0
 
-kind-known : (p : Profile) → (kindOf p ≢ curveKind) × (kindOf p ≢ serverKind) → ⊥
-kind-known (curve f) h = h .0 refl
-kind-known (server s) h = h .1 refl
+kind-known : (p : Profile) → (kindOf p ≡ curveKind) ⊎ (kindOf p ≡ serverKind)
+kind-known (curve f) = inl refl
+kind-known (server s) = inr refl
 
 -- What is written reads back: no line holds of the file, and it holds the profile.
 pub record ReadsBack (p : Profile) : Type 0 where
@@ -56,6 +105,7 @@ module _ (p : Profile) (stands : Stands (fileOf p) 0 (fields edition p)) (same :
   first : editionOf (fileOf p) ≡ edition
   first = edition-first (fileOf p) p stands
 
+  -- it has the bytes that its header requires,
   taken : length (fileOf p) ≡ bytesTaken (fileOf p)
   unfolding bytesTaken
   taken = written-length edition p ∙ ap₂ byteCount (sym first) (sym same)
@@ -65,21 +115,22 @@ module _ (p : Profile) (stands : Stands (fileOf p) 0 (fields edition p)) (same :
   unfolding padding
   zero-padding = rw (first, same, written-bits) (drop-append-seam (profileBits edition p) (zeroBits (padWidth edition p)))
 
-  no-header : (length (fileOf p) ≡ 0) ⊎ (editionOf (fileOf p) ≢ edition) ⊎ ((kindIn (fileOf p) ≢ curveKind) × (kindIn (fileOf p) ≢ serverKind)) → ⊥
-  no-header (inl e) = omega (arith, written-length edition p, more-than-one-byte edition p)
-  no-header (inr (inl h)) = h first
-  no-header (inr (inr h)) = kind-known p (rw (kind-next (fileOf p) edition p stands) at h)
+  -- its header is right,
+  header : RightHeader (fileOf p)
+  header =
+      record {
+        filled = omega (arith, written-length edition p, more-than-one-byte edition p);
+        first = first;
+        kind = rw (kind-next (fileOf p) edition p stands) (kind-known p);
+      }
 
-  no-length : (length (fileOf p) ≢ bytesTaken (fileOf p)) ⊎ ((kindIn (fileOf p) ≡ curveKind) × (length (fileOf p) ≡ 1)) → ⊥
-  no-length (inl h) = h taken
-  no-length (inr h) = omega (arith, written-length edition p, more-than-one-byte edition p)
-
+  -- and no line holds of it but those of the profile
   reads-back : Clear (profileLines p) → ReadsBack p
   reads-back sound = record { clear = clear; same = same }
     where
       clear : Clear (fileLines (fileOf p))
-      clear r (inl (inl (inl h))) = no-header (h .1)
-      clear r (inl (inl (inr h))) = no-length (h .1)
+      clear r (inl (inl (inl h))) = no-header (fileOf p) header (h .1)
+      clear r (inl (inl (inr h))) = no-length (fileOf p) taken (h .1)
       clear r (inl (inr h)) = zeros-no-one (padWidth edition p) (rw zero-padding at (h .1))
       clear r (inr h) = sound r (rw same at h)
 
@@ -125,9 +176,11 @@ read-back-server s ranged = reads-back (server s) stands same sound
 -- a file of bytes in which the fields of the profile that it holds stand, of the byte count required and with no 1 in the
 -- padding, is that profile's file
 module _ (file : List ℕ) (whole : length file ≡ bytesTaken file) (no-one : List·Memᴰ 1 (padding file) → ⊥) where
+  -- the padding is zero bits,
   padding-zeros : padding file ≡ zeroBits (padWidth (editionOf file) (profileOf file))
   padding-zeros = no-one-zeros (padding file) (binary-padding file) no-one ∙ ap zeroBits (padding-width file whole)
 
+  -- and the bytes are those of the file
   standing-written :
       Stands file 0 (fields (editionOf file) (profileOf file)) → Bytes file → written (editionOf file) (profileOf file) ≡ file
   unfolding written padding profileBits byteCount bytesTaken
@@ -152,19 +205,10 @@ server-stands file kind = rw (held-server file (omega arith)) (refl, (kind, (ref
 -- a file of bytes of which no line holds is written again as the same bytes
 pub write-back : (file : List ℕ) → Bytes file → Clear (fileLines file) → written edition (profileOf file) ≡ file
 write-back file bytes clear =
-    ap (λ (ed : ℕ). written ed (profileOf file)) (sym first)
-    ∙ standing-written file whole no-one
-    (elim (ℕ-discrete (kindIn file) curveKind) [
-      | yes kind ↦ curve-stands file kind
-      | no other ↦ server-stands file (not-apart (λ h. clear HEADER (inl (inl (inl (refl, inr (inr (other, h))))))))
-    ])
+    ap (λ (ed : ℕ). written ed (profileOf file)) (sym (header .first))
+    ∙ standing-written file (clear-whole file clear) (clear-padding file clear)
+    (elim (header .kind) [ inl kind ↦ curve-stands file kind | inr kind ↦ server-stands file kind ])
     bytes
   where
-    whole : length file ≡ bytesTaken file
-    whole = not-apart (λ h. clear LENGTH (inl (inl (inr (refl, inl h)))))
-
-    no-one : List·Memᴰ 1 (padding file) → ⊥
-    no-one m = clear PAD (inl (inr (refl, m)))
-
-    first : editionOf file ≡ edition
-    first = not-apart (λ h. clear HEADER (inl (inl (inl (refl, inr (inl h))))))
+    header : RightHeader file
+    header = clear-header file clear
