@@ -10,8 +10,6 @@ use lib.Dec.{lit≤}
 use lib.ListN.{length, take, replicate}
 use lib.Seq.{take-all, take-suc, length-take-le}
 use lib.Pow.{pow-pos}
-use mir.Syntax.{w64}
-use mir.Val.{Fits}
 use Rattle.meaning.specs.Curve.{Bucket, curveOf}
 use Rattle.meaning.specs.Refusal.{InRange, AllInRange}
 use Rattle.meaning.specs.Profile.{bitsOf, packed, fileBits, bytesOf, edition, Profile, curve, server, bucketFields, fields, profileBits, byteCount, written}
