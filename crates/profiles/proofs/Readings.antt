@@ -1,5 +1,6 @@
 -- What comes of reading a file: refused for its frame, or a server, or a curve whose buckets were decoded and are handed over.
 -- Assumes nothing.
+use Rattle.servers.specs.Contracts.{port}
 use mathlib.Core.Path.{_≡_, refl, sym, _∙_, ap, subst}
 use mathlib.Core.Logic.{inl, inr, _≢_}
 use mathlib.Core.List.{List, []}
@@ -22,7 +23,6 @@ use Rattle.meaning.proofs.profile.Outcomes.{file-up-to, read-refused, read-answ
 use Rattle.checks.proofs.Checks.{passed}
 use Rattle.settle.specs.Contracts.{delivering}
 use Rattle.settle.proofs.Delivering.{delivery-clear}
-use Rattle.servers.proofs.Joins.{port}
 use Rattle.profiles.specs.declared.Profile as held-profile
 use Rattle.profiles.specs.Contracts.{InFile, countIn, Counts, Framed, Tested, readingOf, refusedReading, ServerFile, CurveFile, Holds, Decoded, ReadAlone}
 use Rattle.profiles.proofs.Header.{taken-by-curve}
