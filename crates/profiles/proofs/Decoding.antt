@@ -51,6 +51,7 @@ module _ {file : List ℕ} {count : ℕ} {pairs : List ℕ} {k : ℕ} (w : Decod
     pub rate-room : 2 * k < 128
     rate-room = omega (arith, w .holds .few)
 
+    -- and for its burst
     pub burst-room : 2 * k + 1 < 128
     burst-room = omega (arith, w .holds .few)
 

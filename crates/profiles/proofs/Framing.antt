@@ -37,6 +37,7 @@ module _ {file : List ℕ} where
   header-empty h = found-wrong file (lit≤ tt) (header-wrong file (inl h))
 
   module _ (some : length file ≡ 0 → ⊥) where
+    -- the edition lies in the file
     pub edition-inside : InFile file 0 4
     edition-inside = record { inside = omega (arith, some); near = lit≤ tt; narrow = lit≤ tt }
 
@@ -47,6 +48,7 @@ module _ {file : List ℕ} where
       header-edition other = found-wrong file (lit≤ tt) (header-wrong file (inr (inl (λ h. other (e ∙ h)))))
 
       module _ (same : ed ≡ 1) {kind : ℕ} (k : kind ≡ kindIn file) where
+        -- the header is right where the kind is one of the two
         known : (kindIn file ≡ curveKind) ⊎ (kindIn file ≡ serverKind) → Tested file (RightHeader file) 0
         unfolding editionOf
         known is = found-right file (record { filled = omega (arith, some); first = sym e ∙ same; kind = is })
@@ -83,21 +85,27 @@ module _ {file : List ℕ} (whole : Whole file) {kind : ℕ} (k : kind ≡ kindI
       (omega (arith, length-file-bits file, whole .is, server-taken file apart))))
 
   module _ (is : kind ≡ 1) {n : ℕ} (count : Counts file n) where
+    -- the file has the bytes that the count requires
     size : length file ≡ (60 * n + 21) / 8
     size = whole .is ∙ sym (taken-by-curve file k is count)
 
+    -- so the bits of the buckets are few,
     pub padding-bits-fit : Fits w64 (60 * n)
     padding-bits-fit = record { fits = omega (arith, count .few) }
 
+    -- those before the padding too,
     pub padding-start-fits : Fits w64 (14 + 60 * n)
     padding-start-fits = record { fits = omega (arith, count .few) }
 
+    -- and those of the file;
     pub padding-end-fits : Fits w64 (8 * length file)
     padding-end-fits = record { fits = omega (arith, count .few, size) }
 
+    -- the padding begins inside the file,
     pub padding-some : 14 + 60 * n ≤ 8 * length file
     padding-some = omega (arith, size)
 
+    -- and is a field of it
     pub padding-inside : InFile file (14 + 60 * n) (8 * length file - (14 + 60 * n))
     padding-inside =
         record {

@@ -21,6 +21,7 @@ use Rattle.profiles.specs.Contracts.{PackableServer, serverBytes, Packab
 
 -- ---- Bytes as they are.
 
+-- only these bytes are the answer
 single-handing : (bytes : List ℕ) → Single (handing bytes .Answer)
 unfolding handing
 single-handing bytes f g e e′ = e ∙ sym e′
@@ -48,11 +49,13 @@ one-handing bytes = one-bytes (single-handing bytes)
 -- ---- Bytes that are the answer to another question.
 
 module _ (ask : BytesQuestion) {bytes : List ℕ} (clear : Clear (ask .operands)) (right : ask .Answer bytes) (one : Single (ask .Answer)) where
+  -- what refuses the bytes refuses the answer,
   to-lines : {room : ℕ} (r : Refusal) → bytesLines (handing bytes) room r → bytesLines ask room r
   unfolding handing
   to-lines r (inl h) = absurd h
   to-lines r (inr h) = inr (h .0, (bytes, right, rw (h .1 .1) at (h .1 .2)))
 
+  -- and the other way round
   back-lines : {room : ℕ} (r : Refusal) → bytesLines ask room r → bytesLines (handing bytes) room r
   unfolding handing
   back-lines r (inl h) = absurd (clear r h)

@@ -25,42 +25,52 @@ field-none file at w h =
 module _ (file : List ℕ) where
   -- ---- The kind.
 
+  -- an empty file has kind 0
   pub kind-none : length file ≡ 0 → 0 ≡ kindIn file
   unfolding kindIn
   kind-none h = sym (field-none file 4 4 (omega arith))
 
+  -- the kind lies in a file that is not empty
   pub kind-inside : (length file ≡ 0 → ⊥) → InFile file 4 4
   kind-inside some = record { inside = omega (arith, some); near = lit≤ tt; narrow = lit≤ tt }
 
+  -- it is the second field of four bits
   pub kind-read : {k : ℕ} → k ≡ field file 4 4 → k ≡ kindIn file
   unfolding kindIn
   kind-read e = e
 
   -- ---- The count.
 
+  -- the count is at most 64
   counted : {n : ℕ} → n ≡ countIn file → Counts file n
   unfolding countIn
   counted e = record { is = e; few = omega (arith, field-fits file 8 6) }
 
+  -- a file of less than two bytes has count 1
   pub count-none : length file < 2 → Counts file 1
   unfolding countIn
   count-none h = counted (omega (arith, field-none file 8 6 (omega arith)))
 
+  -- the count lies in a file of two bytes or more
   pub count-inside : 2 ≤ length file → InFile file 8 6
   count-inside some = record { inside = omega arith; near = lit≤ tt; narrow = lit≤ tt }
 
+  -- one more than six bits spell fits
   pub count-small : {n : ℕ} → n ≡ field file 8 6 → Fits w64 (n + 1)
   count-small e = record { fits = omega (arith, field-fits file 8 6) }
 
+  -- it is one more than the six bits behind the kind
   pub count-read : {n : ℕ} → n ≡ field file 8 6 → Counts file (n + 1)
   unfolding countIn
   count-read e = counted (ap (λ (x : ℕ). x + 1) e)
 
   -- ---- The bytes taken.
 
+  -- a server takes six bytes,
   pub taken-by-server : {k : ℕ} → k ≡ kindIn file → (k ≡ 1 → ⊥) → 6 ≡ bytesTaken file
   taken-by-server e other = sym (server-taken file (λ h. other (e ∙ h)))
 
+  -- and a curve those of its buckets
   pub taken-by-curve : {k n : ℕ} → k ≡ kindIn file → k ≡ 1 → Counts file n → (60 * n + 21) / 8 ≡ bytesTaken file
   unfolding countIn
   taken-by-curve e is count = omega (arith, count .is, curve-taken file (sym e ∙ is))

@@ -136,6 +136,7 @@ pub ruleset server-packs = (server-packed)
 -- ---- A curve.
 
 module _ {count : ℕ} {before : List ℕ} (p : HeadRoom count before) where
+  -- edition, kind and count are the head
   pub head-packed :
       {b after : List ℕ} {l n : ℕ} → Appends before 0 0 (bitsOf 4 1 ++ bitsOf 4 1) b 8 l
       → Appends b 8 l (bitsOf 6 (count - 1)) after 14 n → Appends before 0 0 (headBits count) after 14 n
@@ -172,6 +173,7 @@ buckets-start p small e = record { packable = p; counted = e; sofar = omega arit
 
 module _ {l before : List ℕ} {left count : ℕ} {bytes : List ℕ} {rest k : ℕ} (w : Bucketing l before left count bytes rest k) where
   module _ (more : k < count) {b : held-bucket.Bucket} (e : bucketOf b ≡ nth (curveOf l) k) where
+    -- the next bucket is in range
     ranged : InRange (bucketOf b)
     ranged = rw e (nth-ranged (curveOf l) k (w .packable .ranged) (omega (arith, w .counted)))
 
@@ -237,6 +239,7 @@ module _ {l before : List ℕ} (p : PackableCurve l before) {count : ℕ} (e : c
         }
 
     module _ {c : List ℕ} {left : ℕ} (w : Appends b 14 m (bucketBits l) c (bitCount l) left) where
+      -- the buckets end where the padding begins
       end-is : bitCount l ≡ 14 + 60 * count
       unfolding bitCount
       end-is = ap (λ (n : ℕ). 14 + 60 * n) (sym e)

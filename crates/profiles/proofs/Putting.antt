@@ -19,6 +19,7 @@ use Rattle.profiles.proofs.Taking.{spelt-append}
 
 -- ---- Bits.
 
+-- a number's bits are bits
 binary-number : (w x : ℕ) → Binary (bitsOf w x)
 unfolding packed
 binary-number w x = rw append-nil at (binary-packed (w bits x ∷ []))
@@ -59,6 +60,7 @@ pub record Putting (before : List ℕ) (at left width x : ℕ) (bytes : List ℕ
   pub is : fileBits (take i bytes) ++ bitsOf pending rest ≡ goal before at left width x
 
 module _ {before : List ℕ} {at left width x : ℕ} (w : Fitting before at left width x) where
+  -- what is left has at most seven bits
   narrow-left : left < 2 ^ 7
   narrow-left = lt-of-lt-of-le (w .left-fits) (pow-mono {j = 7} (omega arith))
 
@@ -66,12 +68,14 @@ module _ {before : List ℕ} {at left width x : ℕ} (w : Fitting before at left
   shifted : left * 2 ^ width % 2 ^ 64 ≡ left * 2 ^ width
   shifted = mod-eq-of-lt (lt-of-lt-of-le (shl-lt 7 width narrow-left) (pow-mono {j = 64} (omega (arith, w .narrow))))
 
+  -- with the field behind it, it has as many bits as both
   joined-fits : left * 2 ^ width + x < 2 ^ (at % 8 + width)
   joined-fits =
       let top : left * 2 ^ width + 2 ^ width ≤ 2 ^ (at % 8) * 2 ^ width =
       le-trans (omega arith) (mul-le-mul {n₁ = left + 1} {n₂ = 2 ^ (at % 8)} (omega (arith, w .left-fits)) (le-refl (2 ^ width))) in
       rw (pow-add 2 (at % 8) width) (omega (arith, w .fits))
 
+  -- so it fits
   pub put-fits : Fits w64 (left * 2 ^ width % 2 ^ 64 + x)
   put-fits = record { fits = rw shifted (lt-of-lt-of-le joined-fits (pow-mono {j = 64} (omega (arith, w .narrow)))) }
 
@@ -97,6 +101,7 @@ module _
     (w : Putting before at left width x bytes i pending rest)
   where
     module _ (more : 8 ≤ pending) where
+      -- the modulus is a power of two,
       power : 1 * 2 ^ (pending - 8) % 2 ^ 64 ≡ 2 ^ (pending - 8)
       power =
           mod-eq-of-lt
@@ -107,18 +112,23 @@ module _
       pub put-shift : pending - 8 < 64
       put-shift = omega (arith, w .fitting .narrow, w .place, w .begun)
 
+      -- there are eight bits or more
       eight-more : pending ≡ 8 + (pending - 8)
       eight-more = omega arith
 
+      -- and is a byte
       top-fits : rest / 2 ^ (pending - 8) < 256
       top-fits = shr-lt 8 (pending - 8) (rw eight-more at (w .rest-fits))
 
+      -- so it fits one
       pub put-byte-fits : Fits w8 (rest / 2 ^ (pending - 8))
       put-byte-fits = record { fits = top-fits }
 
+      -- the modulus is not 0,
       pub put-modulus : 0 < 1 * 2 ^ (pending - 8) % 2 ^ 64
       put-modulus = rw power (pow-pos (pending - 8))
 
+      -- there is room for it
       pub put-inside : i < length bytes
       put-inside = omega (arith, w .fitting .inside, w .place, w .long)
 

@@ -53,11 +53,13 @@ pub frame-refused :
     → x ≡ refusedReading code → ReadPartOutcome file at room table table x
 frame-refused {file} t some e = rw e (refused-file file (omega (arith, some)) (t .refused some))
 
--- it is not
+-- It is not:
 module _ {file : List ℕ} {code : ℕ} (t : Tested file (Framed file) code) (right : code ≡ 0) {kind : ℕ} (k : kind ≡ kindIn file) where
+  -- the file is a server's,
   pub framed-server : (kind ≡ 1 → ⊥) → ServerFile file
   framed-server other = record { frame = t .right right; kind = λ h. other (k ∙ h) }
 
+  -- or a curve's
   pub framed-curve : kind ≡ 1 → CurveFile file
   framed-curve is = record { frame = t .right right; kind = sym k ∙ is }
 
@@ -76,6 +78,7 @@ beside o at room table =
     record { list = record { inside = v .list; outside = three-parts at room table }; told = v .told }
 
 module _ {file : List ℕ} (w : ServerFile file) where
+  -- a server's file has six bytes
   six-bytes : length file ≡ 6
   six-bytes = w .frame .whole .is ∙ server-taken file (w .kind)
 
@@ -83,6 +86,7 @@ module _ {file : List ℕ} (w : ServerFile file) where
   pub server-rate-inside : InFile file 8 20
   server-rate-inside = record { inside = omega (arith, six-bytes); near = lit≤ tt; narrow = lit≤ tt }
 
+  -- and the latency behind the rate
   pub server-latency-inside : InFile file 28 20
   server-latency-inside = record { inside = omega (arith, six-bytes); near = lit≤ tt; narrow = lit≤ tt }
 
@@ -90,6 +94,7 @@ module _ {file : List ℕ} (w : ServerFile file) where
       {rate latency : ℕ} (r : rate ≡ field file 8 20) (l : latency ≡ field file 28 20) {code : ℕ}
       (v : Verdict (serverLines (port rate latency)) code)
     where
+      -- the file holds that server
       holds-server : profileOf file ≡ server (port rate latency)
       holds-server = held-server file (w .kind) ∙ cc (r, l)
 
@@ -161,18 +166,22 @@ module _ {file : List ℕ} (w : CurveFile file) {n : ℕ} (count : Counts file n
       }
 
   module _ {pairs : List ℕ} (d : Decoded file n pairs) where
+    -- the buckets are so many,
     size : length (bucketsIn file 14 n) ≡ n
     size = length-buckets-in file 14 n
 
+    -- at least one,
     one-at-least : 1 ≤ length (bucketsIn file 14 n)
     unfolding countIn
     one-at-least = omega (arith, size, count .is)
 
+    -- and the file holds them
     holds-curve : profileOf file ≡ curve (bucketsIn file 14 n)
     unfolding countIn
     holds-curve = held-curve file (w .kind) ∙ ap (λ (m : ℕ). curve (bucketsIn file 14 m)) (sym (count .is))
 
     module _ {code : ℕ} (v : Verdict (curveLines (take (2 * n) pairs)) code) where
+      -- they are tested for normal form
       tested : Verdict (profileLines (curve (bucketsIn file 14 n))) code
       tested =
           pairs-as-curve-list (bucketsIn file 14 n) one-at-least (omega (arith, size, count .few)) (rw (d .is) at v)
@@ -188,9 +197,11 @@ module _ {file : List ℕ} (w : CurveFile file) {n : ℕ} (count : Counts file n
           (right : code ≡ 0) {at room : ℕ} {table after : List ℕ} {told found : ℕ}
           (o : PartOutcome (delivering (take (2 * n) pairs)) at room table after told found)
         where
+          -- no line of the file holds
           clear : Clear (fileLines file)
           clear = passed (profile-verdict (w .frame) (rw holds-curve tested)) right
 
+          -- so what comes of handing them over comes of reading
           read-so : PartOutcome (reading file) at room table after told found
           read-so = delivered-reading file clear (bucketsIn file 14 n) one-at-least holds-curve (rw (d .is) at o)
 

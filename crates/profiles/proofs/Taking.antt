@@ -91,6 +91,7 @@ module _ {file : List ℕ} {at width end taken i : ℕ} (w : Taken file at width
   pub taken-inside : 8 * i < end → i < length file
   taken-inside more = omega (arith, w .field-in .inside, w .end-is)
 
+  -- what is taken is small
   small : 8 * i < end → taken < 2 ^ 40
   small more =
       rw (w .is)
@@ -102,6 +103,7 @@ module _ {file : List ℕ} {at width end taken i : ℕ} (w : Taken file at width
   taken-fits more = record { fits = omega (arith, small more) }
 
   module _ (more : 8 * i < end) {byte : ℕ} (next : Widened (getD file i 0) byte) where
+    -- so is what is taken with the next byte
     pub taken-sum-fits : Fits w64 (taken * 256 + byte)
     taken-sum-fits = record { fits = omega (arith, small more, next .small) }
 
@@ -132,13 +134,15 @@ module _ {file : List ℕ} {at width end taken i : ℕ} (w : Taken file at width
             ∙ ap (λ (n : ℕ). field file (8 * (at / 8)) (8 * (i - at / 8)) * 256 + n)
             (ap (λ (n : ℕ). field file n 8) here ∙ byte-field file i (taken-inside more) (omega (arith, next .small, next .is))))
 
-  -- all are: the field is in the middle
+  -- the modulus is a power of two,
   power : 1 * 2 ^ width % 2 ^ 64 ≡ 2 ^ width
   power = mod-eq-of-lt (omega (arith, pow-lt {i = width} {j = 64} (omega (arith, w .field-in .narrow)))) ∙ omega arith
 
+  -- and not 0
   pub taken-modulus : 0 < 1 * 2 ^ width % 2 ^ 64
   taken-modulus = rw power (pow-pos width)
 
+  -- all are: the field is in the middle
   pub taken-end : end ≤ 8 * i → taken / 2 ^ (8 * i - end) % (1 * 2 ^ width % 2 ^ 64) ≡ field file at width
   taken-end all =
       rw (w .is, whole, power) (middle file (8 * (at / 8)) (at % 8) width (8 * i - end) (omega (arith, w .field-in .inside, w .end-is)) ∙ ap (λ (n : ℕ). field file n width) (omega arith))

@@ -33,6 +33,7 @@ struct BitReader<'a> {
     at: usize,
 }
 
+// A reader of a file, at a bit.
 fn reader_at<'a>(file: &'a [u8], at: usize) -> BitReader<'a>
     ensures { λ r. ⌜ (r .file ≡ file .entry) × (r .at ≡ at) ⌝ }
 {
