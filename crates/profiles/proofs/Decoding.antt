@@ -8,7 +8,7 @@ use native.Mathlib.Omega.{arith}
 use lib.Dec.{lit≤}
 use lib.ListN.{length, take, set, length-set}
 use lib.Seq.{take-suc-set, append-snoc}
-use Rattle.meaning.specs.Curve.{Bucket, flat}
+use Rattle.meaning.specs.Curve.{flat}
 use Rattle.meaning.specs.Profile.{field, bucketsIn}
 use Rattle.meaning.proofs.profile.Files.{bucketFrom, buckets-in-next}
 use Rattle.checks.proofs.Buckets.{flat-append}

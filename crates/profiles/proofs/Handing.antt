@@ -1,22 +1,22 @@
 -- Bytes handed over to a lent buffer: the answer to a question of their own, and to that of the profile whose file they are.
 -- Assumes nothing.
-use mathlib.Core.Path.{_≡_, refl, sym, _∙_, ap, subst}
+use mathlib.Core.Path.{_≡_, refl, sym, _∙_}
 use mathlib.Core.Logic.{inl, inr}
 use mathlib.Core.List.{List}
-use Prim.Native.Nat.{ℕ, _*_, _≤_, _<_}
+use Prim.Native.Nat.{ℕ, _≤_, _<_}
 use native.Mathlib.Omega.{arith}
-use lib.ListN.{length, take}
+use lib.ListN.{length}
 use Rattle.meaning.specs.Curve.{curveOf}
-use Rattle.meaning.specs.Refusal.{Refusal, Clear, Verdict, curveLines, over, BytesQuestion, bytesLines, BytesOutcome, Filled}
+use Rattle.meaning.specs.Refusal.{Refusal, Clear, Verdict, curveLines, over, BytesQuestion, bytesLines, BytesOutcome}
 use Rattle.meaning.specs.ServerQuestions.{serverLines}
-use Rattle.meaning.specs.Server.{Server}
-use Rattle.meaning.specs.Profile.{edition, Profile, curve, server, written, writing, WriteCurveOutcome, WriteServerOutcome}
-use Rattle.meaning.proofs.outcome.Outcomes.{Single}
+use Rattle.meaning.specs.Profile.{curve, server, written, writing, WriteCurveOutcome, WriteServerOutcome}
+use Rattle.meaning.proofs.outcome.Outcomes.{Single, Same}
 use Rattle.meaning.proofs.outcome.Answers.{curve-up-to}
 use Rattle.meaning.proofs.outcome.Demands.{server-up-to}
-use Rattle.meaning.proofs.outcome.Bytes.{refuse-bytes, no-room-bytes, filled-bytes}
+use Rattle.meaning.proofs.outcome.Bytes.{one-bytes, refuse-bytes, no-room-bytes, filled-bytes}
 use Rattle.checks.proofs.Checks.{passed, curve-ranged, curve-some, curve-few}
-use Rattle.servers.proofs.Joins.{port, server-ranged}
+use Rattle.servers.proofs.Joins.{server-ranged}
+use Rattle.servers.specs.Contracts.{port}
 use Rattle.profiles.specs.Contracts.{PackableServer, serverBytes, PackableCurve, curveBytes, handing}
 
 -- ---- Bytes as they are.
@@ -37,6 +37,13 @@ module _ (bytes : List ℕ) {before : List ℕ} where
   handed room e = rw e (filled-bytes (handing bytes) before (λ r h. h) refl (single-handing bytes) room)
 
 pub ruleset hands = (handed-short, handed)
+
+-- One outcome for every input: the code, the count and the whole buffer are fixed.
+pub one-handing :
+    (bytes : List ℕ) {before after after′ : List ℕ} {code count code′ count′ : ℕ}
+    → BytesOutcome (handing bytes) before after code count → BytesOutcome (handing bytes) before after′ code′ count′
+    → Same code count code′ count′ after after′
+one-handing bytes = one-bytes (single-handing bytes)
 
 -- ---- Bytes that are the answer to another question.
 

@@ -1,6 +1,6 @@
 -- What the first bytes of a file say: its kind, and how many bytes it takes.
 -- Assumes nothing.
-use mathlib.Core.Path.{_≡_, refl, sym, _∙_, ap}
+use mathlib.Core.Path.{_≡_, sym, _∙_, ap}
 use mathlib.Core.List.{List, []}
 use Prim.Native.Nat.{ℕ, _+_, _*_, _/_, _≤_, _<_}
 use native.Mathlib.Omega.{arith}
@@ -9,10 +9,10 @@ use lib.ListN.{length, take, drop, drop-of-length-le}
 use lib.Seq.{take-nil}
 use mir.Syntax.{w64}
 use mir.Val.{Fits}
-use Rattle.meaning.specs.Profile.{spelt, fileBits, field, curve, byteCount, bucketsIn, editionOf, kindIn, profileOf, bytesTaken}
+use Rattle.meaning.specs.Profile.{spelt, fileBits, field, kindIn, bytesTaken}
 use Rattle.meaning.proofs.profile.Bits.{length-file-bits}
 use Rattle.meaning.proofs.profile.Fields.{field-fits}
-use Rattle.meaning.proofs.profile.Files.{curve-bits, server-bits, length-buckets-in, held-curve, held-server}
+use Rattle.meaning.proofs.profile.Files.{curve-taken, server-taken}
 use Rattle.profiles.specs.Contracts.{InFile, countIn, Counts}
 
 -- a field past the file's end is 0
@@ -59,21 +59,11 @@ module _ (file : List ℕ) where
   -- ---- The bytes taken.
 
   pub taken-by-server : {k : ℕ} → k ≡ kindIn file → (k ≡ 1 → ⊥) → 6 ≡ bytesTaken file
-  unfolding bytesTaken byteCount
-  taken-by-server e other =
-      rw (held-server file (λ h. other (e ∙ h)))
-      (omega (arith, server-bits (editionOf file) (record { rate = field file 8 20; latency = field file 28 20 })))
+  taken-by-server e other = sym (server-taken file (λ h. other (e ∙ h)))
 
   pub taken-by-curve : {k n : ℕ} → k ≡ kindIn file → k ≡ 1 → Counts file n → (60 * n + 21) / 8 ≡ bytesTaken file
-  unfolding bytesTaken byteCount countIn
-  taken-by-curve e is count =
-      rw (held-curve file (sym e ∙ is))
-      (omega (
-        arith,
-        curve-bits (editionOf file) (bucketsIn file 14 (field file 8 6 + 1)),
-        length-buckets-in file 14 (field file 8 6 + 1),
-        count .is,
-      ))
+  unfolding countIn
+  taken-by-curve e is count = omega (arith, count .is, curve-taken file (sym e ∙ is))
 
 pub ruleset heading =
     (kind-none, kind-inside, kind-read, count-none, count-inside, count-small, count-read, taken-by-server, taken-by-curve)

@@ -1,5 +1,6 @@
 -- Profiles packed field after field: the bytes are the profile's file.
 -- Assumes nothing.
+use Rattle.servers.specs.Contracts.{port}
 use mathlib.Core.Path.{_≡_, refl, sym, _∙_, ap, ap₂}
 use mathlib.Core.List.{List, [], _∷_, _++_, append-assoc, append-nil}
 use Prim.Native.Nat.{ℕ, zero, suc, _+_, _-_, _*_, _/_, _%_, _^_, _≤_, _<_}
@@ -10,8 +11,6 @@ use lib.Dec.{lit≤}
 use lib.ListN.{length, take, replicate}
 use lib.Seq.{take-all, take-suc, length-take-le}
 use lib.Pow.{pow-pos}
-use mir.Syntax.{w64}
-use mir.Val.{Fits}
 use Rattle.meaning.specs.Curve.{Bucket, curveOf}
 use Rattle.meaning.specs.Refusal.{InRange, AllInRange}
 use Rattle.meaning.specs.Profile.{bitsOf, packed, fileBits, bytesOf, edition, Profile, curve, server, bucketFields, fields, profileBits, byteCount, written}
@@ -20,7 +19,6 @@ use Rattle.meaning.proofs.profile.Bits.{bytes-of-file}
 use Rattle.meaning.proofs.profile.Files.{curve-bits, server-bits}
 use Rattle.checks.specs.Contracts.{bucketOf, nth}
 use Rattle.checks.specs.declared.Bucket as held-bucket
-use Rattle.servers.proofs.Joins.{port}
 use Rattle.profiles.specs.Contracts.{packedBits, AreBytes, Fitting, FittingTwo, Appends, PackableServer, serverBytes, PackableCurve, HeadRoom, headBits, bucketBits, bitCount, curveBytes, PackedCurve}
 
 -- ---- Bits behind bits.

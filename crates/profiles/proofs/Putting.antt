@@ -1,19 +1,19 @@
 -- Fields packed into bytes: what is full is written byte after byte, and what does not fill a byte yet is left.
 -- Assumes nothing.
 use mathlib.Core.Path.{_≡_, refl, sym, _∙_, ap}
-use mathlib.Core.List.{List, [], _∷_, _++_, append-assoc, append-nil, List·Memᴰ, List·Memᴰ·eq-of-singleton}
-use Prim.Native.Nat.{ℕ, zero, suc, _+_, _-_, _*_, _/_, _%_, _^_, _≤_, _<_}
+use mathlib.Core.List.{List, [], _∷_, _++_, append-assoc, append-nil, List·Memᴰ·eq-of-singleton}
+use Prim.Native.Nat.{ℕ, _+_, _-_, _*_, _/_, _%_, _^_, _≤_, _<_}
 use native.Mathlib.Nat.{lt-of-lt-of-le, le-trans, le-refl, mul-le-mul, mod-lt, mod-eq-of-lt}
 use native.Mathlib.Numerals.{add-one}
 use native.Mathlib.Omega.{arith}
-use lib.ListN.{length, take, drop, set, length-set, length-append}
+use lib.ListN.{length, take, set, length-set, length-append}
 use lib.Seq.{take-all, take-suc-set}
 use lib.Pow.{pow-pos, pow-mono, pow-lt, pow-add, shl-lt, shr-lt, split}
 use mir.Syntax.{w8, w64}
 use mir.Val.{Fits}
 use Rattle.meaning.specs.Profile.{bitsOf, spelt, _bits_, packed, fileBits}
 use Rattle.meaning.proofs.Lists.{append-each}
-use Rattle.meaning.proofs.profile.Bits.{Binary, binary-append, binary-packed, length-bits, spelt-bits, bits-at}
+use Rattle.meaning.proofs.profile.Bits.{Binary, binary-append, binary-packed, length-bits, spelt-bits, bits-at, file-bits-append}
 use Rattle.profiles.specs.Contracts.{packedBits, AreBytes, Fitting, Appends}
 use Rattle.profiles.proofs.Taking.{spelt-append}
 
@@ -39,9 +39,8 @@ bits-join p w a x ha hx =
 -- one byte more has its bits more
 pub file-next : (l : List ℕ) (b : ℕ) → fileBits (l ++ b ∷ []) ≡ fileBits l ++ bitsOf 8 b
 unfolding fileBits packed
-file-next [] b = append-nil (bitsOf 8 b)
-file-next (x ∷ l) b =
-    ap (λ (r : List ℕ). bitsOf 8 x ++ r) (file-next l b) ∙ sym (append-assoc (bitsOf 8 x) (fileBits l) (bitsOf 8 b))
+file-next l b =
+    file-bits-append l (b ∷ []) ∙ ap (λ (r : List ℕ). fileBits l ++ r) (append-nil (bitsOf 8 b))
 
 -- ---- Byte after byte.
 

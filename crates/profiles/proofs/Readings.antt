@@ -1,31 +1,31 @@
 -- What comes of reading a file: refused for its frame, or a server, or a curve whose buckets were decoded and are handed over.
 -- Assumes nothing.
+use Rattle.servers.specs.Contracts.{port}
 use mathlib.Core.Path.{_≡_, refl, sym, _∙_, ap, subst}
 use mathlib.Core.Logic.{inl, inr, _≢_}
 use mathlib.Core.List.{List, []}
-use Prim.Native.Nat.{ℕ, _+_, _*_, _%_, _≤_, _<_}
+use Prim.Native.Nat.{ℕ, _*_, _≤_}
 use native.Mathlib.Omega.{arith}
 use lib.Dec.{lit≤}
 use lib.ListN.{length, take}
-use Rattle.meaning.specs.Curve.{Bucket, buckets, flat, curveOf, listOf, NormalForm}
-use Rattle.meaning.specs.Server.{Server, noServer}
+use Rattle.meaning.specs.Curve.{Bucket, flat, curveOf, listOf}
+use Rattle.meaning.specs.Server.{noServer}
 use Rattle.meaning.specs.ServerQuestions.{serverLines}
-use Rattle.meaning.specs.Refusal.{Refusal, HEADER, LENGTH, PAD, RANGE, FORM, number, Lines, _when_, _or_, Clear, Verdict, accepted, rejected, AllInRange, Uneven, curveLines, over, part, PartOutcome}
-use Rattle.meaning.specs.Profile.{curveKind, Profile, curve, server, field, bucketsIn, kindIn, profileOf, bytesTaken, profileLines, fileLines, reading, Reading, ReadOutcome, ReadPartOutcome}
-use Rattle.meaning.proofs.Order.{not-apart}
+use Rattle.meaning.specs.Refusal.{Refusal, number, Lines, Clear, Verdict, accepted, rejected, Uneven, curveLines, TooLarge, over, allLines, part, PartOutcome}
+use Rattle.meaning.specs.Profile.{Profile, curve, server, field, bucketsIn, kindIn, profileOf, profileLines, fileLines, bucketsOf, reading, Reading, ReadOutcome, ReadPartOutcome}
 use Rattle.meaning.proofs.Lists.{flat-length, buckets-flat}
-use Rattle.meaning.proofs.outcome.Outcomes.{From, from-when, from-or, up-to-when, up-to-or, clear-or, refused-first, refused-then, three-parts, refuse-in-part, asked-so-in-part, whole-list}
+use Rattle.meaning.proofs.outcome.Outcomes.{three-parts, refuse-in-part, asked-so-in-part, whole-list}
+use Rattle.meaning.proofs.outcome.Answers.{outcome-code}
 use Rattle.meaning.proofs.outcome.Slips.{refusal-keeps-table}
-use Rattle.meaning.proofs.profile.Files.{length-buckets-in, buckets-in-range, held-curve, held-server}
+use Rattle.meaning.proofs.profile.Files.{held-few, read-in-range, length-buckets-in, held-curve, held-server, server-taken}
+use Rattle.meaning.proofs.profile.Refusals.{profile-decides}
 use Rattle.meaning.proofs.profile.Outcomes.{file-up-to, read-refused, read-answered}
 use Rattle.checks.proofs.Checks.{passed}
 use Rattle.settle.specs.Contracts.{delivering}
 use Rattle.settle.proofs.Delivering.{delivery-clear}
-use Rattle.servers.specs.Contracts.{serverOf}
-use Rattle.servers.proofs.Joins.{port}
 use Rattle.profiles.specs.declared.Profile as held-profile
-use Rattle.profiles.specs.Contracts.{InFile, countIn, Counts, frameLines, readingOf, refusedReading, ServerFile, CurveFile, Holds, Decoded, ReadAlone}
-use Rattle.profiles.proofs.Header.{taken-by-curve, taken-by-server}
+use Rattle.profiles.specs.Contracts.{InFile, countIn, Counts, Framed, Tested, readingOf, refusedReading, ServerFile, CurveFile, Holds, Decoded, ReadAlone}
+use Rattle.profiles.proofs.Header.{taken-by-curve}
 
 -- ---- Refusals.
 
@@ -35,12 +35,6 @@ same-verdict :
 same-verdict to back (accepted clear e) = accepted (λ r h. clear r (back r h)) e
 same-verdict to back (rejected r w e) =
     rejected r (record { holds = to r (w .holds); smallest = λ s h. w .smallest s (back s h) }) e
-
--- the lines of a profile come after those of the frame
-profile-from : (p : Profile) → From 3 (profileLines p)
-unfolding number
-profile-from (curve f) = from-or (from-when RANGE (lit≤ tt)) (from-when FORM (lit≤ tt))
-profile-from (server s) = from-when RANGE (lit≤ tt)
 
 -- a line of the file holds: the table stays
 refused-file :
@@ -55,38 +49,21 @@ refused-file file {at} {room} {table} some v =
 
 -- the frame is refused
 pub frame-refused :
-    (file : List ℕ) {at room : ℕ} {table : List ℕ} {code : ℕ} {x : Reading} → Verdict (frameLines file) code → (code ≡ 0 → ⊥)
+    {file : List ℕ} {at room : ℕ} {table : List ℕ} {code : ℕ} {x : Reading} → Tested file (Framed file) code → (code ≡ 0 → ⊥)
     → x ≡ refusedReading code → ReadPartOutcome file at room table table x
-unfolding number frameLines
-frame-refused file v some e =
-    rw e
-    (refused-file file (omega (arith, some))
-    (refused-first {n = 3}
-    (up-to-or (up-to-or (up-to-when HEADER (lit≤ tt)) (up-to-when LENGTH (lit≤ tt))) (up-to-when PAD (lit≤ tt)))
-    (profile-from (profileOf file)) (omega (arith, some)) v))
+frame-refused {file} t some e = rw e (refused-file file (omega (arith, some)) (t .refused some))
 
 -- it is not
-module _ (file : List ℕ) {code : ℕ} (v : Verdict (frameLines file) code) (right : code ≡ 0) {kind : ℕ} (k : kind ≡ kindIn file) where
+module _ {file : List ℕ} {code : ℕ} (t : Tested file (Framed file) code) (right : code ≡ 0) {kind : ℕ} (k : kind ≡ kindIn file) where
   pub framed-server : (kind ≡ 1 → ⊥) → ServerFile file
-  framed-server other = record { clear = passed v right; kind = λ h. other (k ∙ h) }
+  framed-server other = record { frame = t .right right; kind = λ h. other (k ∙ h) }
 
   pub framed-curve : kind ≡ 1 → CurveFile file
-  framed-curve is = record { clear = passed v right; kind = sym k ∙ is }
+  framed-curve is = record { frame = t .right right; kind = sym k ∙ is }
 
-module _ (file : List ℕ) (frame : Clear (frameLines file)) where
-  -- what the profile is refused with is the file's refusal
-  profile-verdict : {code : ℕ} → Verdict (profileLines (profileOf file)) code → Verdict (fileLines file) code
-  unfolding frameLines
-  profile-verdict v = refused-then (accepted frame refl) v
-
-  profile-clear : Clear (profileLines (profileOf file)) → Clear (fileLines file)
-  unfolding frameLines
-  profile-clear clear = clear-or frame clear
-
-  -- the byte count is the one required
-  whole : length file ≡ bytesTaken file
-  unfolding frameLines
-  whole = not-apart (λ h. frame LENGTH (inl (inr (refl, inl h))))
+-- then what the profile is refused with is the file's refusal
+profile-verdict : {file : List ℕ} → Framed file → {code : ℕ} → Verdict (profileLines (profileOf file)) code → Verdict (fileLines file) code
+profile-verdict {file} w v = profile-decides file (w .header) (w .whole .is) (w .no-one) v
 
 -- ---- A server.
 
@@ -100,7 +77,7 @@ beside o at room table =
 
 module _ {file : List ℕ} (w : ServerFile file) where
   six-bytes : length file ≡ 6
-  six-bytes = whole file (w .clear) ∙ sym (taken-by-server file refl (w .kind))
+  six-bytes = w .frame .whole .is ∙ server-taken file (w .kind)
 
   -- the rate and the latency lie in the file
   pub server-rate-inside : InFile file 8 20
@@ -121,7 +98,7 @@ module _ {file : List ℕ} (w : ServerFile file) where
       server-file-refused some e =
           record {
             outcome = λ at room table.
-                rw e (refused-file file (omega (arith, some)) (profile-verdict file (w .clear) (rw holds-server v)));
+                rw e (refused-file file (omega (arith, some)) (profile-verdict (w .frame) (rw holds-server v)));
           }
 
       -- it is read
@@ -132,7 +109,7 @@ module _ {file : List ℕ} (w : ServerFile file) where
       server-file-read right e = record { outcome = rw e (beside alone) }
         where
           clear : Clear (fileLines file)
-          clear = profile-clear file (w .clear) (rw holds-server (passed v right))
+          clear = passed (profile-verdict (w .frame) (rw holds-server v)) right
 
           alone : (before : List ℕ) → ReadOutcome file before before (record { code = 0; kind = 2; count = 0; server = port rate latency })
           alone before = rw holds-server at (read-answered file before clear (rw holds-server (omega arith)))
@@ -179,7 +156,7 @@ module _ {file : List ℕ} (w : CurveFile file) {n : ℕ} (count : Counts file n
   pub curve-holds : Holds file n
   curve-holds =
       record {
-        inside = omega (arith, whole file (w .clear), taken-by-curve file refl (w .kind) count);
+        inside = omega (arith, w .frame .whole .is, taken-by-curve file refl (w .kind) count);
         few = count .few;
       }
 
@@ -205,14 +182,14 @@ module _ {file : List ℕ} (w : CurveFile file) {n : ℕ} (count : Counts file n
           {at room : ℕ} {table : List ℕ} {x : Reading} → (code ≡ 0 → ⊥) → x ≡ refusedReading code
           → ReadPartOutcome file at room table table x
       curve-file-refused some e =
-          rw e (refused-file file (omega (arith, some)) (profile-verdict file (w .clear) (rw holds-curve tested)))
+          rw e (refused-file file (omega (arith, some)) (profile-verdict (w .frame) (rw holds-curve tested)))
 
       module _
           (right : code ≡ 0) {at room : ℕ} {table after : List ℕ} {told found : ℕ}
           (o : PartOutcome (delivering (take (2 * n) pairs)) at room table after told found)
         where
           clear : Clear (fileLines file)
-          clear = profile-clear file (w .clear) (rw holds-curve (passed tested right))
+          clear = passed (profile-verdict (w .frame) (rw holds-curve tested)) right
 
           read-so : PartOutcome (reading file) at room table after told found
           read-so = delivered-reading file clear (bucketsIn file 14 n) one-at-least holds-curve (rw (d .is) at o)
@@ -250,6 +227,25 @@ pub read-alone :
     {file : List ℕ} {at room : ℕ} {table : List ℕ} {x : held-profile.Profile} → ReadAlone file x
     → ReadPartOutcome file at room table table (readingOf x)
 read-alone o = o .outcome _ _ _
+
+-- LARGE is never told: a file has at most 64 buckets, and each is in range
+pub read-never-large :
+    {file before after : List ℕ} {x : Reading} → ReadOutcome file before after x → x .code ≢ 9
+unfolding reading number
+read-never-large {file} {before} {x = x} o e = told (outcome-code (o .list))
+  where
+    none : (r : Refusal) → number r ≡ 9 → allLines (reading file) (length before) r → ⊥
+    none r nine (inl h) = omega (arith, file-up-to file r h)
+    none r nine (inr (inl h)) = fits (h .1 .0) (h .1 .1) (h .1 .2)
+      where
+        fits : (f : List Bucket) → f ≡ bucketsOf (profileOf file) → TooLarge f → ⊥
+        fits f is (inl many) = omega (arith, held-few file, ap length is)
+        fits f is (inr out) = out (rw is (read-in-range file))
+    none r nine (inr (inr h)) = omega (arith, ap number (h .0), nine)
+
+    told : Verdict (allLines (reading file) (length before)) (x .code) → ⊥
+    told (accepted none-holds z) = omega arith
+    told (rejected r w is) = none r (sym is ∙ e) (w .holds)
 
 pub ruleset server-files = (server-rate-inside, server-latency-inside, server-file-refused, server-file-read)
 

@@ -1,16 +1,16 @@
 -- A field of a file taken in whole bytes: the bytes that hold it spell a number, and the field is what stands in its middle.
 -- Assumes nothing.
 use mathlib.Core.Path.{_≡_, refl, sym, _∙_, ap}
-use mathlib.Core.List.{List, [], _∷_, _++_, map}
+use mathlib.Core.List.{List, [], _∷_, _++_}
 use Prim.Native.Nat.{ℕ, zero, suc, _+_, _-_, _*_, _/_, _%_, _^_, _≤_, _<_}
-use native.Mathlib.Nat.{lt-of-lt-of-le, mul-le-mul, le-refl, mod-eq-of-lt}
+use native.Mathlib.Nat.{lt-of-lt-of-le, mod-eq-of-lt}
 use native.Mathlib.Omega.{arith}
-use lib.ListN.{length, getD, take, drop, length-append, length-take, length-drop}
+use lib.ListN.{length, getD, take, drop, length-append, length-drop}
 use lib.Seq.{take-add, drop-drop, drop-append-add, length-take-le}
 use lib.Pow.{pow-pos, pow-mono, pow-lt, pow-add, high, low}
 use mir.Syntax.{w64}
 use mir.Val.{Fits}
-use Rattle.meaning.specs.Profile.{bitsOf, spelt, _bits_, packed, fileBits, field}
+use Rattle.meaning.specs.Profile.{bitsOf, spelt, packed, fileBits, field}
 use Rattle.meaning.proofs.profile.Bits.{length-bits, bits-taken, spelt-bits, length-file-bits}
 use Rattle.meaning.proofs.profile.Fields.{field-fits}
 use Rattle.profiles.specs.Contracts.{InFile, Widened}
@@ -28,11 +28,11 @@ spelt-append (b ∷ l) r =
     )
 
 -- a field of more bits is the field before and the field behind
-pub field-append :
+pub field-split :
     (file : List ℕ) (at w v : ℕ) → at + w + v ≤ 8 * length file
     → field file at (w + v) ≡ field file at w * 2 ^ v + field file (at + w) v
 unfolding field
-field-append file at w v h =
+field-split file at w v h =
     let all = fileBits file in
     let size : length (take v (drop w (drop at all))) ≡ v =
     length-take-le v (drop w (drop at all)) (omega (arith, length-drop w (drop at all), length-drop at all, length-file-bits file)) in
@@ -58,9 +58,9 @@ middle :
     → field file from (before + width + behind) / 2 ^ behind % 2 ^ width ≡ field file (from + before) width
 middle file from before width behind h =
     let front : field file from (before + width + behind) / 2 ^ behind ≡ field file from (before + width) =
-    ap (λ (n : ℕ). n / 2 ^ behind) (field-append file from (before + width) behind (omega arith))
+    ap (λ (n : ℕ). n / 2 ^ behind) (field-split file from (before + width) behind (omega arith))
     ∙ high (field file from (before + width)) behind (field-fits file (from + (before + width)) behind) in
-    ap (λ (n : ℕ). n % 2 ^ width) (front ∙ field-append file from before width (omega arith))
+    ap (λ (n : ℕ). n % 2 ^ width) (front ∙ field-split file from before width (omega arith))
     ∙ low (field file from before) width (field-fits file (from + before) width)
 
 -- The bytes from the field's first one up to byte i are taken.
@@ -128,7 +128,7 @@ module _ {file : List ℕ} {at width end taken i : ℕ} (w : Taken file at width
         one-more =
             sym
             (ap (field file (8 * (at / 8))) longer
-            ∙ field-append file (8 * (at / 8)) (8 * (i - at / 8)) 8 (omega (arith, taken-inside more))
+            ∙ field-split file (8 * (at / 8)) (8 * (i - at / 8)) 8 (omega (arith, taken-inside more))
             ∙ ap (λ (n : ℕ). field file (8 * (at / 8)) (8 * (i - at / 8)) * 256 + n)
             (ap (λ (n : ℕ). field file n 8) here ∙ byte-field file i (taken-inside more) (omega (arith, next .small, next .is))))
 

@@ -1,15 +1,16 @@
 -- What the contracts of this crate's own functions cite, beside the definitions of the crate meaning.
 -- Assumes nothing.
 use mathlib.Core.Path.{_≡_}
-use mathlib.Core.Logic.{_⊎_, _≢_}
+use mathlib.Core.Logic.{_≢_}
 use mathlib.Core.List.{List, _++_, List·Memᴰ}
 use Prim.Native.Nat.{ℕ, _+_, _-_, _*_, _/_, _%_, _^_, _≤_, _<_}
 use lib.ListN.{length, take}
 use Rattle.meaning.specs.Curve.{flat, curveOf}
 use Rattle.meaning.specs.Server.{Server, noServer}
 use Rattle.meaning.specs.ServerQuestions.{ServerInRange}
-use Rattle.meaning.specs.Refusal.{HEADER, LENGTH, PAD, Lines, _when_, _or_, Clear, AllInRange, BytesQuestion}
-use Rattle.meaning.specs.Profile.{bitsOf, packed, fileBits, edition, curveKind, serverKind, curve, server, bucketFields, written, field, bucketsIn, editionOf, kindIn, bytesTaken, padding, Reading, ReadPartOutcome}
+use Rattle.meaning.specs.Refusal.{Verdict, AllInRange, BytesQuestion}
+use Rattle.meaning.specs.Profile.{bitsOf, packed, fileBits, edition, curveKind, curve, server, bucketFields, written, field, bucketsIn, kindIn, bytesTaken, padding, fileLines, Reading, ReadPartOutcome}
+use Rattle.meaning.proofs.profile.RoundTrip.{RightHeader}
 use Rattle.servers.specs.Contracts.{serverOf}
 use Rattle.profiles.specs.declared.Profile as held-profile
 
@@ -37,17 +38,20 @@ pub record Counts (file : List ℕ) (count : ℕ) : Type 0 where
   pub is : count ≡ countIn file
   pub few : count ≤ 64
 
--- The first line of a file.
-abbrev pub headerLine : List ℕ → Lines
-headerLine file =
-    HEADER when ((length file ≡ 0) ⊎ (editionOf file ≢ edition) ⊎ ((kindIn file ≢ curveKind) × (kindIn file ≢ serverKind)))
+-- A file's byte count is what kind and count require.
+pub record Whole (file : List ℕ) : Type 0 where
+  pub is : length file ≡ bytesTaken file
 
--- Its first three lines, before those of the profile that it holds.
-unfoldable pub frameLines : List ℕ → Lines
-frameLines file =
-    headerLine file
-    or LENGTH when ((length file ≢ bytesTaken file) ⊎ ((kindIn file ≡ curveKind) × (length file ≡ 1)))
-    or PAD when List·Memᴰ 1 (padding file)
+-- A file's header, its byte count and its padding are right.
+pub record Framed (file : List ℕ) : Type 0 where
+  pub header : RightHeader file
+  pub whole : Whole file
+  pub no-one : List·Memᴰ 1 (padding file) → ⊥
+
+-- The code of a test: 0 where P holds, else the file's refusal.
+pub record Tested (file : List ℕ) (P : Type 0) (code : ℕ) : Type 0 where
+  pub refused : code ≢ 0 → Verdict (fileLines file) code
+  pub right : code ≡ 0 → P
 
 -- ---- Reading.
 
@@ -59,14 +63,14 @@ readingOf x = record { code = x .code; kind = x .kind; count = x .count; server 
 abbrev pub refusedReading : ℕ → Reading
 refusedReading code = record { code = code; kind = 0; count = 0; server = noServer }
 
--- None of the first three lines holds of a server's file,
+-- A server's file whose frame is right,
 pub record ServerFile (file : List ℕ) : Type 0 where
-  pub clear : Clear (frameLines file)
+  pub frame : Framed file
   pub kind : kindIn file ≢ curveKind
 
--- and none of a curve's.
+-- and a curve's.
 pub record CurveFile (file : List ℕ) : Type 0 where
-  pub clear : Clear (frameLines file)
+  pub frame : Framed file
   pub kind : kindIn file ≡ curveKind
 
 -- So many buckets lie in a file.

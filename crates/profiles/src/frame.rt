@@ -3,15 +3,14 @@
 use crate::bits;
 use checks::limits;
 ghost use mathlib.Core.Path.{_≡_};
-ghost use lib.ListN.{length};
-ghost use Rattle.meaning.specs.Refusal.{Verdict};
-ghost use Rattle.meaning.specs.Profile.{spelt, padding, bytesTaken};
+ghost use Rattle.meaning.specs.Profile.{spelt, padding};
 ghost use Rattle.checks.specs.Contracts.{Tells};
-ghost use Rattle.profiles.specs.Contracts.{headerLine, frameLines};
+ghost use Rattle.meaning.proofs.profile.RoundTrip.{RightHeader};
+ghost use Rattle.profiles.specs.Contracts.{Whole, Framed, Tested};
 
 // HEADER, or 0.
 fn header(file: &[u8]) -> u64
-    ensures { λ r. ⌜ Verdict (headerLine (now (file .entry))) r ⌝ }
+    ensures { λ r. ⌜ Tested (now (file .entry)) (RightHeader (now (file .entry))) r ⌝ }
 {
     if file.len() == 0 {
         return limits::HEADER;
@@ -31,14 +30,14 @@ fn header(file: &[u8]) -> u64
 
 // Whether the byte count is what kind and count require.
 fn is_whole(file: &[u8]) -> bool
-    ensures { λ r. ⌜ Tells (length (now (file .entry)) ≡ bytesTaken (now (file .entry))) r ⌝ }
+    ensures { λ r. ⌜ Tells (Whole (now (file .entry))) r ⌝ }
 {
     file.len() == crate::bytes_taken(file)
 }
 
 // The number that the padding bits spell.
 fn padding_in(file: &[u8]) -> u64
-    requires { ⌜ length (now file) ≡ bytesTaken (now file) ⌝ }
+    requires { ⌜ Whole (now file) ⌝ }
     ensures { λ r. ⌜ r ≡ spelt (padding (now (file .entry))) ⌝ }
 {
     if crate::kind_in(file) != crate::CURVE {
@@ -50,7 +49,7 @@ fn padding_in(file: &[u8]) -> u64
 
 // HEADER, LENGTH, PAD, or 0.
 pub(crate) fn refusal(file: &[u8]) -> u64
-    ensures { λ r. ⌜ Verdict (frameLines (now (file .entry))) r ⌝ }
+    ensures { λ r. ⌜ Tested (now (file .entry)) (Framed (now (file .entry))) r ⌝ }
 {
     let code = header(file);
     if code != 0 {

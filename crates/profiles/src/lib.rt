@@ -8,7 +8,6 @@ mod writer;
 use checks::limits;
 use servers::Server;
 ghost use mathlib.Core.Path.{_≡_};
-ghost use lib.ListN.{length};
 ghost use Rattle.meaning.specs.Profile.{kindIn, bytesTaken, ReadOutcome, ReadPartOutcome, WriteCurveOutcome, WriteServerOutcome};
 ghost use Rattle.meaning.specs.Refusal.{BytesOutcome};
 ghost use Rattle.servers.specs.Contracts.{serverOf};

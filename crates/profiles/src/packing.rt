@@ -4,7 +4,7 @@ use servers::Server;
 ghost use mathlib.Core.Path.{_≡_};
 ghost use mathlib.Core.List.{_++_};
 ghost use Prim.Native.Nat.{_+_, _<_};
-ghost use lib.ListN.{length, take};
+ghost use lib.ListN.{take};
 ghost use Rattle.meaning.specs.Profile.{bitsOf};
 ghost use Rattle.servers.specs.Contracts.{serverOf};
 ghost use Rattle.profiles.specs.Contracts.{Fitting, FittingTwo, Appends, HeadRoom, headBits, PackableServer, serverBytes, PackableCurve, bucketBits, bitCount, PackedCurve};

@@ -6,10 +6,10 @@ use Rattle.profiles.proofs.read_in.Statement.{statement}
 use Rattle.profiles.proofs.read_in.Tie as tie
 
 server-requires : tie.Need-server-requires
-server-requires c κs = framed-server _ (c .before .before .before .refusal .ensures) (search needs) (c .before .kind-in .ensures) (search needs)
+server-requires c κs = framed-server (c .before .before .before .refusal .ensures) (search needs) (c .before .kind-in .ensures) (search needs)
 
 curve-requires : tie.Need-curve-requires
-curve-requires c κs = framed-curve _ (c .before .before .before .before .refusal .ensures) (search needs) (c .before .before .kind-in .ensures) (search needs)
+curve-requires c κs = framed-curve (c .before .before .before .before .refusal .ensures) (search needs) (c .before .before .kind-in .ensures) (search needs)
 
 pub read-in-spec : {M : Type 1} → statement M
 read-in-spec =
