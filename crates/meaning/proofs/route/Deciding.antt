@@ -5,7 +5,7 @@ use mathlib.Core.Path.{_≡_, refl, sym, _∙_, ap, subst}
 use mathlib.Core.Logic.{inl, inr, _≢_}
 use mathlib.Core.Option.{Option}
 use mathlib.Core.List.{List, [], _∷_, _++_}
-use Prim.Native.Nat.{ℕ, _+_, _-_, _*_, _≤_, _<_}
+use Prim.Native.Nat.{ℕ, _+_, _-_, _*_, _≤_}
 use native.Mathlib.Nat.{le-of-lt}
 use native.Mathlib.Decide.{ℕ-discrete}
 use native.Mathlib.Omega.{arith}
@@ -13,7 +13,7 @@ use lib.ListN.{length, take, drop, length-append, length-drop, take-append-drop}
 use lib.Seq.{take-all, length-take-le, take-append-le, drop-append-le}
 use Rattle.meaning.specs.Curve.{Bucket}
 use Rattle.meaning.specs.Server.{Server}
-use Rattle.meaning.specs.Refusal.{Refusal, HEADER, number, Lines, Wins, Clear}
+use Rattle.meaning.specs.Refusal.{Refusal, HEADER, number, Lines, Wins}
 use Rattle.meaning.specs.Profile.{curveKind, kindIn, profileOf, bytesTaken}
 use Rattle.meaning.specs.Route.{firstFile, afterFirst, hopLines, Figures, Report, Onward, ends, bytes-left, stops, hop, Reported, no-curve, from-curve, Route}
 use Rattle.meaning.proofs.Order.{le-or-lt}
