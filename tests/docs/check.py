@@ -1,5 +1,6 @@
 """Holds the pages to the source, a test for each thing that a page promises:
 - each theorem that LAWS.md names stands in the file that its row names;
+- each definition and theorem that COVERAGE.md names stands in the file in brackets behind it, and each edit in a must-fail/;
 - each public function has its line in CONTRACTS.md;
 - each path that a page names is there;
 - each crate is in the README's list, and each page of docs/.
@@ -57,6 +58,22 @@ for row in re.findall(r"^\|(.*)\|$", laws, flags=re.M):
             if not any(declares(proofs[file], name) for file in files):
                 misplaced.append(f"{name} does not stand in {cells[-1]}")
 test("every theorem stands in the file that docs/LAWS.md names", misplaced or ([] if rows > 20 else ["no rows with files"]))
+
+# A group of names and the file that they stand in: `one`, `two` (outcome/Outcomes).
+coverage = read("docs/COVERAGE.md")
+places = {os.path.basename(p)[:-len(".antt")]: text for p, text in specs.items() if p.startswith("crates/meaning/")}
+misplaced = []
+named = 0
+for words, file in re.findall(r"((?:`[^`|]+`[^`|()]{0,40}?)+)\(([A-Za-z]+(?:/[A-Za-z]+)?)\)", coverage):
+    texts = [t for t in (proofs.get(file), places.get(file)) if t is not None]
+    for name in re.findall(r"`([\w-]+)`", words) if texts else []:
+        named += 1
+        if not any(declares(t, name) for t in texts):
+            misplaced.append(f"{name} does not stand in {file}")
+test("every name in docs/COVERAGE.md stands in its file", misplaced or ([] if named > 300 else ["no names with files"]))
+edits = {os.path.basename(p)[:-len(".edit")] for p in glob.glob("crates/*/must-fail/*.edit")}
+told = [e for words in re.findall(r"[;|] edits? ([\w, -]+?) \|", coverage) for e in words.split(", ")]
+test("every edit that docs/COVERAGE.md names is there", [e for e in told if e not in edits] or ([] if told else ["no edits"]))
 
 # A function is named in full, or after a comma by what follows the last name's crate and module.
 contracts = read("docs/CONTRACTS.md")
