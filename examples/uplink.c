@@ -26,7 +26,7 @@ int main(void)
     show("camera and sensor", sum, both);
 
     duchrelin_answer uplink = duchrelin_shape(both, DUCHRELIN_BUCKET_NUMBERS * sum.count, 8, shaped, DUCHRELIN_CURVE_NUMBERS);
-    show("behind a link of rate 8", uplink, shaped);
+    show("shaped by a link of rate 8", uplink, shaped);
 
     duchrelin_figure bits = duchrelin_value(shaped, DUCHRELIN_BUCKET_NUMBERS * uplink.count, 10);
     printf("within ten ticks: %" PRIu64 " bits\n", bits.figure);

@@ -1,8 +1,8 @@
 /*
  * Duchrelin: the delays of a network, for C, at whole ticks and whole bits. Link with libduchrelin.a (x86-64 Linux).
  *
- * Curves. A curve is a list of 64-bit numbers: rate then burst for each bucket, 1 to 64 buckets. A rate is 0 to 2^20-1 bits a
- * tick, a burst 0 to 2^40-1 bits. Every function but duchrelin_normalise takes curves in normal form and refuses others.
+ * Curves. A curve is 1 to 64 buckets in a list of 64-bit numbers, two for each: its rate, then its burst. A rate is 0 to 2^20-1
+ * bits a tick, a burst 0 to 2^40-1 bits. Every function but duchrelin_normalise takes curves in normal form and refuses others.
  *
  * Servers. A server is a switch port: a rate, 1 to 2^20-1 bits a tick, and a latency, 0 to 2^20-1 ticks. By tick t it has served
  * rate * (t - latency) bits, and none up to its latency.
@@ -19,7 +19,7 @@
  * DUCHRELIN_TEXT_BYTES for every text of a route.
  *
  * Refusals. Any other code is one of the numbers below, the smallest that applies over all operands. Every count and figure is then
- * 0, and every list and buffer holds what it held before the call.
+ * 0, and no list or buffer has changed.
  *
  * Every call ends. None allocates, keeps anything between calls or calls the system, so calls on separate lists may run at the
  * same time. duchrelin_sum takes about 66 KiB of stack, each other function less than 4 KiB.
@@ -40,14 +40,14 @@ extern "C" {
 enum {
     DUCHRELIN_ANSWERED = 0,
     DUCHRELIN_HEADER = 1,    /* a file is empty, its edition is not 1, or its kind is not 1 or 2; in a route, not the kind that is due */
-    DUCHRELIN_LENGTH = 2,    /* a file has not the bytes that its kind and count require */
+    DUCHRELIN_LENGTH = 2,    /* a file has not the bytes that its header asks for, or is a curve's first byte alone */
     DUCHRELIN_PAD = 3,       /* a padding bit is 1 */
-    DUCHRELIN_LIST = 4,      /* a curve list is empty or of odd length */
+    DUCHRELIN_LIST = 4,      /* a list of buckets without a number, or with an odd number of them */
     DUCHRELIN_COUNT = 5,     /* a curve list has over 64 buckets; a route has over 32 servers */
-    DUCHRELIN_RANGE = 6,     /* a rate, burst, latency, tick or link rate is outside its range */
+    DUCHRELIN_RANGE = 6,     /* a number out of its range: of a bucket, of a server, a tick, a link's rate */
     DUCHRELIN_FORM = 7,      /* a curve is not in normal form */
     DUCHRELIN_UNBOUNDED = 8, /* the curve's last rate is too large for the server */
-    DUCHRELIN_LARGE = 9,     /* the exact answer has over 64 buckets, or a number out of range */
+    DUCHRELIN_LARGE = 9,     /* the exact answer would have more than 64 buckets, or a number out of range */
     DUCHRELIN_ROOM = 10      /* the output is shorter than the answer */
 };
 
@@ -109,11 +109,11 @@ typedef struct duchrelin_written {
     uint64_t bytes;
 } duchrelin_written;
 
-/* The list in normal form with the same value at every time. The raw buckets, 1 to 64, may stand in any order and repeat.
+/* The normal form of a raw list: it has the raw list's value at every time. The raw buckets, 1 to 64, may stand in any order and repeat.
  * Example: {3,20, 10,2, 10,2, 5,15, 3,25} gives count 2 and {10,2, 3,20}. */
 duchrelin_answer duchrelin_normalise(const uint64_t *raw, size_t raw_numbers, uint64_t *out, size_t out_numbers);
 
-/* The curve's value in bits at a tick from 0 to 2^40-1: the least of rate * tick + burst over its buckets.
+/* What the curve gives by a tick, 0 to 2^40-1, in bits: the least of rate * tick + burst over its buckets.
  * Example: {10,2, 3,20} gives 2 at tick 0, 22 at tick 2 and 29 at tick 3. */
 duchrelin_figure duchrelin_value(const uint64_t *curve, size_t curve_numbers, uint64_t tick);
 
@@ -166,7 +166,7 @@ duchrelin_written duchrelin_write_curve(const uint64_t *curve, size_t curve_numb
 duchrelin_written duchrelin_write_server(uint64_t rate, uint64_t latency, uint8_t *buffer, size_t buffer_bytes);
 
 /* The report of a route as text: `input` is a curve's file, then 1 to 32 servers' files, back to back. A line `hop N X Y` for each
- * hop (its number, backlog and delay), then `route X Y` for the joined server over the first curve; or, where anything is refused,
+ * hop (its number, backlog and delay), and last `route X Y`, of all servers joined and the first curve; or, where anything is refused,
  * the one line `refused C at K`, with the code and which profile it is, the curve being 1. A refusal inside the route is a text,
  * so its code is 0: the only code here is ROOM. Example: the files of {10,2, 3,20}, (6, 4) and (5, 2) give 33 bytes,
  * "hop 1 32 6\nhop 2 38 9\nroute 38 9\n". */

@@ -1,10 +1,15 @@
 // Runs the figures of the scope that are not proved of the definitions, and prints a line for each: what is asked, the code,
-// the count of buckets, and the answered buckets; P1 into a part of a table, with the whole table; and servers joined. The file
+// the count of buckets, and the answered buckets; answers into a part of a table, with the whole table; and servers joined. The file
 // stdout beside src/ has what the scope says.
 use libc::STDOUT_FILENO;
+use operations::curves::lower_in;
 use operations::curves::normalise;
 use operations::curves::normalise_in;
 use operations::curves::shape;
+use operations::curves::shape_in;
+use operations::curves::sum_in;
+use operations::hops::behind_in;
+use profiles::read_in;
 use servers::Server;
 use settle::Answer;
 ghost use mathlib.Core.Path.{_≡_};
@@ -41,15 +46,81 @@ fn show_buckets(count: u64, list: &[u64]) {
     }
 }
 
+// A line for an answer in a part of a table: the words, the code, the count, and the whole table.
+fn show_table(words: &[u8], code: u64, count: u64, table: &[u64]) {
+    io::write_all(STDOUT_FILENO, words);
+    show_number(code);
+    show_number(count);
+    show_buckets(5, table);
+    io::write_all(STDOUT_FILENO, b"\n");
+}
+
 // Normalises the five raw buckets of P1 into a part of a table, the numbers from 3 on, and shows the whole table.
 fn show_in_part(words: &[u8], room: usize) {
     let mut table = [9u64; 10];
     let answer = normalise_in(&[3, 20, 10, 2, 10, 2, 5, 15, 3, 25], &mut table, 3, room);
-    io::write_all(STDOUT_FILENO, words);
-    show_number(answer.code);
-    show_number(answer.count);
-    show_buckets(5, &table);
-    io::write_all(STDOUT_FILENO, b"\n");
+    show_table(words, answer.code, answer.count, &table);
+}
+
+// Curves that other questions answer into a part of a table: the numbers from 3 on, of which there are five.
+fn show_curves_in_parts() {
+    let mut table = [9u64; 10];
+    let lowered = lower_in(&[10, 2], &[3, 20], &mut table, 3, 5);
+    show_table(
+        b"lower {(10,2)} and {(3,20)} into a part:",
+        lowered.code,
+        lowered.count,
+        &table,
+    );
+
+    let mut table = [9u64; 10];
+    let added = sum_in(&[10, 2], &[3, 20], &mut table, 3, 5);
+    show_table(
+        b"sum {(10,2)} and {(3,20)} into a part:",
+        added.code,
+        added.count,
+        &table,
+    );
+
+    let mut table = [9u64; 10];
+    let shaped = shape_in(&[3, 20], 10, &mut table, 3, 5);
+    show_table(
+        b"shape {(3,20)} by 10 into a part:",
+        shaped.code,
+        shaped.count,
+        &table,
+    );
+}
+
+// The same at a server, and from a file.
+fn show_ports_in_parts() {
+    let mut table = [9u64; 10];
+    let passed = behind_in(
+        &[10, 2, 3, 20],
+        Server {
+            rate: 6,
+            latency: 1,
+        },
+        &mut table,
+        3,
+        5,
+    );
+    show_table(
+        b"P5's curve behind (6,1) into a part:",
+        passed.code,
+        passed.count,
+        &table,
+    );
+
+    let mut table = [9u64; 10];
+    let file = [0x11, 0x00, 0x00, 0x02, 0x80, 0x00, 0x00, 0x00, 0x00, 0x80];
+    let read = read_in(&file, &mut table, 3, 5);
+    show_table(
+        b"P11's curve read into a part:",
+        read.code,
+        read.count,
+        &table,
+    );
 }
 
 // Buckets (200 - i, i * i): rates fall and crossings rise, so each is useful.
@@ -101,6 +172,8 @@ fn main() {
 
     show_in_part(b"normalise P1 into a part of 4 numbers:", 4);
     show_in_part(b"normalise P1 into a part of 3 numbers:", 3);
+    show_curves_in_parts();
+    show_ports_in_parts();
 
     show_joined(b"join (1,2^20-1) with (1,0):", 0);
     show_joined(b"join (1,2^20-1) with (1,1):", 1);

@@ -1,5 +1,5 @@
 -- Forms that can be worked out, for the figures and for code to follow. None of them is what anything means: for each, a
--- theorem of proofs/ says that it is the meaning that Curve and RateLatency give (docs/LAWS.md lists them).
+-- theorem of proofs/ says that it is the meaning that Curve and Server give (docs/LAWS.md lists them).
 -- Assumes nothing.
 use mathlib.Core.Bool.{Bool, true, false, _&&_, cond}
 use mathlib.Core.List.{List, [], _∷_, _++_}

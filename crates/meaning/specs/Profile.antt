@@ -54,7 +54,7 @@ curveKind = 1
 abbrev pub serverKind : ℕ
 serverKind = 2
 
--- A file holds exactly one profile.
+-- What a file can hold: a curve or a server.
 pub data Profile : Type 0 where
   curve : List Bucket → Profile
   server : Server → Profile
@@ -105,7 +105,7 @@ editionOf file = field file 0 4
 unfoldable pub kindIn : List ℕ → ℕ
 kindIn file = field file 4 4
 
--- The profile that a file holds: of kind 1 a curve, or else a server. Its fields stand one after the other.
+-- The profile that a file holds: of kind 1 a curve, or else a server. (Any kind but these two is HEADER, whatever is read here.)
 unfoldable pub profileOf : List ℕ → Profile
 profileOf file = ofKind (eqb (kindIn file) curveKind)
   where

@@ -1,4 +1,4 @@
--- The route program: its whole output as text, from its whole input as bytes.
+-- The route program: its whole output as text, from its whole input as bytes. (docs/SCOPE.md, "The route".)
 -- Assumes nothing.
 use mathlib.Core.Path.{_≡_}
 use mathlib.Core.Logic.{_≢_}

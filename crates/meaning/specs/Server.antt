@@ -48,11 +48,11 @@ join s next = record { rate = min (s .rate) (next .rate); latency = s .latency +
 abbrev pub Excess : List Bucket → ℕ → ℕ → Type 0
 Excess f rate = GreatestGap (reads f) (λ u. rate * u)
 
--- A bucket that begins T ticks early: its burst grows by r·T.
+-- A bucket read T ticks later: its burst grows by r·T.
 unfoldable pub later : ℕ → Bucket → Bucket
 later latency k = record { rate = k .rate; burst = k .burst + k .rate * latency }
 
--- Those of the buckets that are no faster than the server, each so.
+-- The buckets that are no faster than the server, each read T ticks later.
 unfoldable pub slower : RateLatency → List Bucket → List Bucket
 unfolding later
 slower s [] = []

@@ -34,8 +34,8 @@ BacklogOutcome f s = FigureOutcome (portLines f s) (Backlog (curveOf f) s)
 unfoldable pub DelayOutcome : List ℕ → Server → ℕ → ℕ → Type 0
 DelayOutcome f s = FigureOutcome (portLines f s) (Delay (curveOf f) s)
 
--- What a hop of a route reports beside its curve: where the code is 0, backlog and delay there and the server passed; no figures
--- and no server where it is not.
+-- What a hop of a route reports beside its curve: where the code is 0, backlog, delay and the server (a hop's record holds its
+-- server); no figures and no server where it is not.
 pub record HopFigures (f : List ℕ) (s : Server) (code backlog delay : ℕ) (through : Server) : Type 0 where
   pub backlog-is : code ≡ 0 → Backlog (curveOf f) s backlog
   pub delay-is : code ≡ 0 → Delay (curveOf f) s delay

@@ -1,4 +1,4 @@
-// M, the greatest of value(s) - R·s over whole s: by how much a curve is ahead of a rate.
+// M: by how much a curve is ahead of R bits a tick, at most.
 use crate::lowest::least_before;
 use crate::lowest::least_from;
 ghost use mathlib.Core.Path.{_≡_};
@@ -8,7 +8,7 @@ ghost use Rattle.meaning.specs.Curve.{curveOf};
 ghost use Rattle.meaning.specs.Server.{Excess, last};
 ghost use Rattle.operations.specs.Contracts.{Tested, FirstSlow, tickOf};
 
-// The number of the first bucket of rate at most R. The last one is, so the search ends there at the latest.
+// The number of the first bucket that is no faster than R. The last one is not, so the search ends there at the latest.
 pub(crate) fn first_slow(curve: &[u64], rate: u64) -> usize
     requires { ⌜ Tested (curveOf (now curve)) ⌝ }
     requires { ⌜ last (curveOf (now curve)) .rate ≤ rate ⌝ }

@@ -44,7 +44,7 @@ fn refused(code: u64) -> Hop
     }
 }
 
-// The normal form of (R, R·T + M) and of (r, b + r·T) for each bucket from `first` on.
+// (R, R·T + M), and the buckets from `first` on, each read T ticks later, in normal form.
 fn settled(
     curve: &[u64],
     rate: u64,
@@ -66,7 +66,7 @@ fn settled(
     settle(&raw[..end], table, at, room)
 }
 
-// The curve behind a server, backlog and delay there: tested once, and M worked out once.
+// A hop: the curve that leaves the server, with backlog and delay; tested once, and M worked out once.
 pub fn pass_in(curve: &[u64], server: Server, table: &mut [u64], at: usize, room: usize) -> Hop
     ensures { λ r. ⌜ HopPartOutcome (now (curve .entry)) (serverOf server) at room (now (table .entry)) (now (table .exit)) (r .code) (r .count) (r .backlog) (r .delay) (serverOf (r .server)) ⌝ }
 {

@@ -13,7 +13,7 @@ use servers::ServerAnswer;
 ghost use Rattle.meaning.specs.ServerQuestions.{BacklogOutcome, DelayOutcome, ResidualOutcome};
 ghost use Rattle.servers.specs.Contracts.{serverOf};
 
-// The greatest, over whole u, of value(u) minus what the server serves by u.
+// The most by which the curve is ahead of the service, at any tick.
 pub fn backlog(curve: &[u64], server: Server) -> Figure
     ensures { λ r. ⌜ BacklogOutcome (now (curve .entry)) (serverOf server) (r .code) (r .figure) ⌝ }
 {
@@ -31,7 +31,7 @@ pub fn backlog(curve: &[u64], server: Server) -> Figure
     }
 }
 
-// The smallest whole d such that value(t) is at most what is served by t+d, for every whole t.
+// The least d with which all that has come by a tick is served d ticks later, whatever the tick.
 pub fn delay(curve: &[u64], server: Server) -> Figure
     ensures { λ r. ⌜ DelayOutcome (now (curve .entry)) (serverOf server) (r .code) (r .figure) ⌝ }
 {

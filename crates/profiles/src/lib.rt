@@ -1,4 +1,4 @@
-// The store's profile file, read and written: fields packed bit after bit, most significant bit first.
+// The store's profile file, read and written: fields one behind the other without gaps, the highest bit of each first.
 mod bits;
 mod frame;
 mod packing;

@@ -1,4 +1,4 @@
-// Fields packed bit after bit, most significant bit first, into bytes. What does not fill a byte yet is `left`, a number of as
+// Fields one behind the other, the highest bit of each first, into bytes. What does not fill a byte yet is `left`, a number of as
 // many bits as the position is past the byte's start.
 use servers::Server;
 ghost use mathlib.Core.Path.{_≡_};
