@@ -1,10 +1,8 @@
 // A curve passed through a server: the curve behind, into a lent list or into a part of a larger table, with backlog and delay there.
 use crate::bounds::backlog_of;
 use crate::bounds::delay_of;
-use crate::excess::excess;
-use crate::excess::first_slow;
 use crate::gather;
-use crate::refusals;
+use crate::opening::open;
 use servers::Server;
 use settle::Answer;
 use settle::settle;
@@ -66,18 +64,19 @@ fn settled(
     settle(&raw[..end], table, at, room)
 }
 
-// The curve behind a server, backlog and delay there: tested once, and M worked out once.
+// The curve behind a server, backlog and delay there.
 pub fn pass_in(curve: &[u64], server: Server, table: &mut [u64], at: usize, room: usize) -> Hop
     ensures { λ r. ⌜ HopPartOutcome (now (curve .entry)) (serverOf server) at room (now (table .entry)) (now (table .exit)) (r .code) (r .count) (r .backlog) (r .delay) (serverOf (r .server)) ⌝ }
 {
-    let code = refusals::port(curve, server);
+    let port = open(curve, server);
+    let code = port.code;
     if code != 0 {
         return refused(code);
     }
     let rate = server.rate;
     let latency = server.latency;
-    let first = first_slow(curve, rate);
-    let ahead = excess(curve, rate, first);
+    let first = port.first;
+    let ahead = port.ahead;
     let answer = settled(curve, rate, latency, first, ahead, table, at, room);
     if answer.code != 0 {
         return refused(answer.code);
