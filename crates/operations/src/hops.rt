@@ -98,7 +98,7 @@ pub fn pass(curve: &[u64], server: Server, out: &mut [u64]) -> Hop
     pass_in(curve, server, out, 0, room)
 }
 
-// The curve behind a server, alone.
+// The curve behind a server, alone. (The figures of the hop cost little beside it.)
 pub fn behind_in(curve: &[u64], server: Server, table: &mut [u64], at: usize, room: usize) -> Answer
     ensures { λ r. ⌜ PartOutcome (passing (now (curve .entry)) (serverOf server)) at room (now (table .entry)) (now (table .exit)) (r .code) (r .count) ⌝ }
 {

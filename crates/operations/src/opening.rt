@@ -12,6 +12,7 @@ pub(crate) struct Port {
     pub(crate) ahead: u64,
 }
 
+// Tests a curve at a server and, where no line refuses them, works M out.
 pub(crate) fn open(curve: &[u64], server: Server) -> Port
     ensures { λ r. ⌜ Opened (now (curve .entry)) (server .rate) (server .latency) (r .code) (r .first) (r .ahead) ⌝ }
 {
