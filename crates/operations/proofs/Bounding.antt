@@ -3,18 +3,16 @@
 use mathlib.Core.Path.{_≡_, refl, sym, _∙_, ap}
 use mathlib.Core.Bool.{Bool, true, false, true≢false}
 use mathlib.Core.Logic.{inl, inr}
-use mathlib.Core.List.{List, []}
+use mathlib.Core.List.{List}
 use Prim.Native.Nat.{ℕ, _+_, _-_, _*_, _/_, _^_, _≤_, _<_, min}
 use native.Mathlib.Nat.{le-of-lt, le-trans, le-of-eq, le-antisymm, zero-add, mul-le-mul, min-eq-left, min-eq-right, div-le-self}
 use native.Mathlib.Omega.{arith}
 use mir.Syntax.{w64}
 use mir.Val.{Fits}
 use lib.ListN.{length}
-use Rattle.meaning.specs.Curve.{Bucket, _∈_, bucketAt, curveOf, reads}
+use Rattle.meaning.specs.Curve.{Bucket, _∈_, bucketAt, reads}
 use Rattle.meaning.specs.Server.{Excess, Backlog, Delay, last}
 use Rattle.meaning.specs.Computed.{roundedUp}
-use Rattle.meaning.specs.Refusal.{Verdict, FigureOutcome}
-use Rattle.meaning.specs.ServerQuestions.{portLines, BacklogOutcome, DelayOutcome}
 use Rattle.meaning.proofs.Lists.{at-inside, inside-at, falling-at}
 use Rattle.meaning.proofs.Order.{le-or-lt}
 use Rattle.meaning.proofs.curve.Value.{same-bucket-at, same-rate, value-least, value-reached}
@@ -23,12 +21,10 @@ use Rattle.meaning.proofs.server.Behind.{cut-gap}
 use Rattle.meaning.proofs.server.Joining.{last-inside, last-slowest, rounded-up-is}
 use Rattle.meaning.proofs.server.Delay.{delay-of-nothing, delay-from-excess}
 use Rattle.meaning.proofs.server.Sizes.{excess-bound}
-use Rattle.meaning.proofs.outcome.Outcomes.{refusal}
 use Rattle.checks.specs.Contracts.{Tells}
 use Rattle.servers.specs.Contracts.{port}
 use Rattle.operations.specs.Contracts.{bucket, Tested, TestedPort, LeastOf, FirstSlow}
 use Rattle.operations.proofs.Turning.{nowhere, last-numbered, slow-from}
-use Rattle.operations.proofs.Refusing.{port-clear, tested-port}
 
 -- M is below 2^40: the last bucket's burst is
 pub excess-small : (f : List Bucket) {rate latency m : ℕ} → TestedPort f rate latency → Excess f rate m → m < 2 ^ 40
@@ -198,48 +194,3 @@ module _ {f : List Bucket} {rate latency m : ℕ} (w : TestedPort f rate latency
       }
 
 pub ruleset delays = (port-curve, delay-small, delay-rate, delay-none, delay-some, delay-fits)
-
--- ---- The outcomes.
-
-module _ (f : List ℕ) {rate latency code : ℕ} (v : Verdict (portLines f (port rate latency)) code) where
-  pub backlog-refused : (code ≡ 0 → ⊥) → BacklogOutcome f (port rate latency) code 0
-  unfolding BacklogOutcome
-  backlog-refused some = FigureOutcome.refused (refusal [] (omega (arith, some)) v)
-
-  pub delay-refused : (code ≡ 0 → ⊥) → DelayOutcome f (port rate latency) code 0
-  unfolding DelayOutcome
-  delay-refused some = FigureOutcome.refused (refusal [] (omega (arith, some)) v)
-
-  module _ (none : code ≡ 0) where
-    -- what the search for the first bucket of rate at most R needs, and M
-    pub asked-curve : Tested (curveOf f)
-    asked-curve = tested-port f v none .curve
-
-    pub asked-bounded : last (curveOf f) .rate ≤ rate
-    asked-bounded = tested-port f v none .bounded
-
-    pub asked-rate : rate < 2 ^ 20
-    asked-rate = tested-port f v none .server .rate-fits
-
-    -- what the figures need
-    pub asked-port : TestedPort (curveOf f) rate latency
-    asked-port = tested-port f v none
-
-    pub backlog-answered : {figure : ℕ} → Backlog (curveOf f) (port rate latency) figure → BacklogOutcome f (port rate latency) 0 figure
-    unfolding BacklogOutcome
-    backlog-answered is = FigureOutcome.answered (port-clear f v none) refl is
-
-    pub delay-answered : {figure : ℕ} → Delay (curveOf f) (port rate latency) figure → DelayOutcome f (port rate latency) 0 figure
-    unfolding DelayOutcome
-    delay-answered is = FigureOutcome.answered (port-clear f v none) refl is
-
-pub ruleset port-figures = (
-  backlog-refused,
-  delay-refused,
-  asked-curve,
-  asked-bounded,
-  asked-rate,
-  asked-port,
-  backlog-answered,
-  delay-answered,
-)

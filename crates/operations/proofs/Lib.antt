@@ -4,6 +4,7 @@ pub mod Valuing
 pub mod Turning
 pub mod Refusing
 pub mod Bounding
+pub mod Sharing
 pub mod Leaving
 pub mod Lining
 pub mod Passing

@@ -9,8 +9,8 @@ use native.Mathlib.Omega.{arith}
 use lib.ListN.{length}
 use Rattle.meaning.specs.Curve.{Bucket, _∈_, flat, curveOf, NormalOf}
 use Rattle.meaning.specs.Server.{Server, noServer, later, slower, Excess, Behind, Backlog, Delay}
-use Rattle.meaning.specs.Refusal.{Verdict, PartOutcome}
-use Rattle.meaning.specs.ServerQuestions.{portLines, passing, HopOutcome, HopPartOutcome}
+use Rattle.meaning.specs.Refusal.{PartOutcome}
+use Rattle.meaning.specs.ServerQuestions.{passing, HopOutcome, HopPartOutcome}
 use Rattle.meaning.proofs.Lists.{at-inside, inside-at}
 use Rattle.meaning.proofs.Order.{le-or-lt}
 use Rattle.meaning.proofs.curve.Value.{same-rate}
@@ -23,10 +23,11 @@ use Rattle.meaning.proofs.outcome.Slips.{refusal-keeps-table}
 use Rattle.checks.specs.Contracts.{nth}
 use Rattle.settle.specs.Contracts.{AllWide, settling}
 use Rattle.servers.specs.Contracts.{port}
-use Rattle.operations.specs.Contracts.{TestedPort, FirstSlow, lineAndLater}
+use Rattle.operations.specs.Contracts.{TestedPort, FirstSlow, Opened, lineAndLater}
 use Rattle.operations.proofs.Turning.{nowhere, slow-from}
-use Rattle.operations.proofs.Refusing.{port-clear, tested-port}
+use Rattle.operations.proofs.Refusing.{port-clear}
 use Rattle.operations.proofs.Bounding.{excess-small}
+use Rattle.operations.proofs.Sharing.{opened-port}
 use Rattle.operations.proofs.Lining.{line-length, line-nth}
 use Rattle.operations.proofs.Asking.{settled}
 
@@ -128,7 +129,7 @@ module _
 
 -- ---- Behind.
 
-module _ (f : List ℕ) {rate latency checked : ℕ} (v : Verdict (portLines f (port rate latency)) checked) where
+module _ {f : List ℕ} {rate latency checked first m : ℕ} (p : Opened f rate latency checked first m) where
   -- an operand is refused: the whole table stays
   pub hop-in-refused :
       {at room : ℕ} {table : List ℕ} {code count backlog delay : ℕ} {through : Server}
@@ -139,23 +140,29 @@ module _ (f : List ℕ) {rate latency checked : ℕ} (v : Verdict (portLines f (
       rw (same, none, none′, none″, no-server)
       (record {
         curve =
-            refuse-in-part (passing f (port rate latency)) _ _ _ (port-up-to f (port rate latency)) (omega (arith, some)) v;
+            refuse-in-part (passing f (port rate latency)) _ _ _ (port-up-to f (port rate latency)) (omega (arith, some))
+            (p .verdict);
         figures = hop-refused f (port rate latency) some;
       })
 
   module _
-      (none : checked ≡ 0) {first m : ℕ} (s : FirstSlow (curveOf f) rate first) (e : Excess (curveOf f) rate m)
-      {at room : ℕ} {before after : List ℕ} {code count : ℕ}
+      (none : checked ≡ 0) {at room : ℕ} {before after : List ℕ} {code count : ℕ}
       (o : PartOutcome (settling (flat (lineAndLater (curveOf f) first rate (rate * latency + m) latency))) at room before after code count)
     where
       w : TestedPort (curveOf f) rate latency
-      w = tested-port f v none
+      w = opened-port p none
+
+      s : FirstSlow (curveOf f) rate first
+      s = p .first-is none
+
+      e : Excess (curveOf f) rate m
+      e = p .excess-is none
 
       -- what `settle` leaves is the outcome of behind
       passed-in : PartOutcome (passing f (port rate latency)) at room before after code count
       unfolding passing
       passed-in =
-          settled (passing f (port rate latency)) (raw w s e) (raw-behind w s e) (behind-raw w s e) (port-clear f v none)
+          settled (passing f (port rate latency)) (raw w s e) (raw-behind w s e) (behind-raw w s e) (port-clear f (p .verdict) none)
           (omega (arith, line-length (curveOf f) first rate (rate * latency + m) latency)) (raw-wide w s e) o
 
       -- the answer is too large, or has no room

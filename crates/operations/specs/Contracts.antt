@@ -6,10 +6,10 @@ use mathlib.Core.List.{List, [], _∷_, map}
 use Prim.Native.Nat.{ℕ, _-_, _/_, _≤_, _<_}
 use lib.Dec.{leb, ltb}
 use lib.ListN.{length, drop}
-use Rattle.meaning.specs.Curve.{Bucket, bucketAt, NormalForm}
-use Rattle.meaning.specs.Refusal.{AllInRange}
-use Rattle.meaning.specs.Server.{noServer, later, last}
-use Rattle.meaning.specs.ServerQuestions.{ServerInRange}
+use Rattle.meaning.specs.Curve.{Bucket, curveOf, bucketAt, NormalForm}
+use Rattle.meaning.specs.Refusal.{AllInRange, Verdict}
+use Rattle.meaning.specs.Server.{noServer, Excess, later, last}
+use Rattle.meaning.specs.ServerQuestions.{ServerInRange, portLines}
 use Rattle.checks.specs.Contracts.{nth}
 use Rattle.servers.specs.Contracts.{port, serverOf}
 use Rattle.operations.specs.declared.gather.Next.{Next}
@@ -44,6 +44,12 @@ pub record FirstSlow (f : List Bucket) (rate first : ℕ) : Type 0 where
   pub inside : first < length f
   pub steeper : (k : ℕ) → k < first → rate < nth f k .rate
   pub slow : nth f first .rate ≤ rate
+
+-- A curve and a server tested: the code; and where it is 0, the first bucket of rate at most R, and M.
+pub record Opened (f : List ℕ) (rate latency code first m : ℕ) : Type 0 where
+  pub verdict : Verdict (portLines f (port rate latency)) code
+  pub first-is : code ≡ 0 → FirstSlow (curveOf f) rate first
+  pub excess-is : code ≡ 0 → Excess (curveOf f) rate m
 
 -- The whole tick up to the crossing of the bucket numbered k, from 0, with the one before it.
 unfoldable pub tickOf : List Bucket → ℕ → ℕ

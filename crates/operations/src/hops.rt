@@ -1,10 +1,8 @@
 // A curve passed through a server: the curve behind, into a lent list or into a part of a larger table, with backlog and delay there.
 use crate::bounds::backlog_of;
 use crate::bounds::delay_of;
-use crate::excess::excess;
-use crate::excess::first_slow;
 use crate::gather;
-use crate::refusals;
+use crate::opening::open;
 use servers::Server;
 use settle::Answer;
 use settle::settle;
@@ -70,14 +68,15 @@ fn settled(
 pub fn pass_in(curve: &[u64], server: Server, table: &mut [u64], at: usize, room: usize) -> Hop
     ensures { λ r. ⌜ HopPartOutcome (now (curve .entry)) (serverOf server) at room (now (table .entry)) (now (table .exit)) (r .code) (r .count) (r .backlog) (r .delay) (serverOf (r .server)) ⌝ }
 {
-    let code = refusals::port(curve, server);
+    let port = open(curve, server);
+    let code = port.code;
     if code != 0 {
         return refused(code);
     }
     let rate = server.rate;
     let latency = server.latency;
-    let first = first_slow(curve, rate);
-    let ahead = excess(curve, rate, first);
+    let first = port.first;
+    let ahead = port.ahead;
     let answer = settled(curve, rate, latency, first, ahead, table, at, room);
     if answer.code != 0 {
         return refused(answer.code);
@@ -99,7 +98,7 @@ pub fn pass(curve: &[u64], server: Server, out: &mut [u64]) -> Hop
     pass_in(curve, server, out, 0, room)
 }
 
-// The curve behind a server, alone.
+// The curve behind a server, alone. (The figures of the hop cost little beside it.)
 pub fn behind_in(curve: &[u64], server: Server, table: &mut [u64], at: usize, room: usize) -> Answer
     ensures { λ r. ⌜ PartOutcome (passing (now (curve .entry)) (serverOf server)) at room (now (table .entry)) (now (table .exit)) (r .code) (r .count) ⌝ }
 {

@@ -8,6 +8,7 @@ mod excess;
 mod gather;
 pub mod hops;
 mod lowest;
+mod opening;
 pub mod ports;
 mod refusals;
 pub mod value;

@@ -2,8 +2,7 @@
 use crate::bounds::backlog_of;
 use crate::bounds::delay_of;
 use crate::bounds::rounded_up;
-use crate::excess::excess;
-use crate::excess::first_slow;
+use crate::opening::open;
 use crate::refusals;
 use crate::refusals::last_bucket;
 use crate::value::Figure;
@@ -17,17 +16,14 @@ ghost use Rattle.servers.specs.Contracts.{serverOf};
 pub fn backlog(curve: &[u64], server: Server) -> Figure
     ensures { λ r. ⌜ BacklogOutcome (now (curve .entry)) (serverOf server) (r .code) (r .figure) ⌝ }
 {
-    let code = refusals::port(curve, server);
+    let port = open(curve, server);
+    let code = port.code;
     if code != 0 {
         return Figure { code, figure: 0 };
     }
-    let rate = server.rate;
-    let latency = server.latency;
-    let first = first_slow(curve, rate);
-    let ahead = excess(curve, rate, first);
     Figure {
         code: 0,
-        figure: backlog_of(curve, rate, latency, first, ahead),
+        figure: backlog_of(curve, server.rate, server.latency, port.first, port.ahead),
     }
 }
 
@@ -35,17 +31,14 @@ pub fn backlog(curve: &[u64], server: Server) -> Figure
 pub fn delay(curve: &[u64], server: Server) -> Figure
     ensures { λ r. ⌜ DelayOutcome (now (curve .entry)) (serverOf server) (r .code) (r .figure) ⌝ }
 {
-    let code = refusals::port(curve, server);
+    let port = open(curve, server);
+    let code = port.code;
     if code != 0 {
         return Figure { code, figure: 0 };
     }
-    let rate = server.rate;
-    let latency = server.latency;
-    let first = first_slow(curve, rate);
-    let ahead = excess(curve, rate, first);
     Figure {
         code: 0,
-        figure: delay_of(curve, rate, latency, ahead),
+        figure: delay_of(curve, server.rate, server.latency, port.ahead),
     }
 }
 

@@ -1,6 +1,6 @@
 -- An operand is refused, or the answer is; or the curve behind is handed over, with the figures. Assumes nothing.
 use Rattle.operations.proofs.Passing.{hopping}
-use Rattle.operations.proofs.Bounding.{port-figures}
+use Rattle.operations.proofs.Sharing.{opened}
 use borrow.Author.Needs.{needs}
 use Rattle.operations.proofs.hops.pass_in.Statement.{statement}
 use Rattle.operations.proofs.hops.pass_in.Tie as tie
@@ -11,14 +11,12 @@ pass-in-spec =
     (tie.spec
     (λ c κs. search needs)
     (λ c κs. search needs)
-    (λ c. search (port-figures, hopping, needs))
-    (λ c κs. search (port-figures, hopping, needs))
-    (λ c κs. search (port-figures, hopping, needs))
-    (λ c κs. search (port-figures, hopping, needs))
+    (λ c. search (opened, hopping, needs))
+    (λ c κs. search (opened, hopping, needs))
     (λ c κs. search needs)
     (λ c. search needs)
-    (λ c. search (port-figures, hopping, needs))
-    (λ c κs. search (port-figures, hopping, needs))
-    (λ c κs. search (port-figures, hopping, needs))
+    (λ c. search (opened, hopping, needs))
+    (λ c κs. search (opened, hopping, needs))
+    (λ c κs. search (opened, hopping, needs))
     (λ c. search needs)
-    (λ c. search (port-figures, hopping, needs)))
+    (λ c. search (opened, hopping, needs)))
