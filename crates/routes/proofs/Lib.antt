@@ -1,0 +1,3 @@
+-- The laws that the proofs of this crate's functions cite.
+pub mod Putting
+pub mod Spelling

@@ -1,0 +1,34 @@
+-- What the contracts of this crate's own functions cite, beside the definitions of the crate meaning.
+-- Assumes nothing.
+use mathlib.Core.Path.{_≡_}
+use mathlib.Core.List.{List, [], _∷_, _++_}
+use Prim.Native.Nat.{ℕ, _+_, _≤_}
+use lib.ListN.{length, take, drop}
+use Rattle.meaning.specs.Route.{Figures, digits}
+
+-- ---- Text, piece by piece.
+
+-- A text has room for bytes at a place.
+pub record Room (bytes text : List ℕ) (at : ℕ) : Type 0 where
+  pub fits : at + length bytes ≤ length text
+
+-- Bytes are put at a place of a text: what stands before the next place is what stood before the place, and then these bytes.
+pub record Put (before : List ℕ) (at : ℕ) (bytes after : List ℕ) (next : ℕ) : Type 0 where
+  pub place : next ≡ at + length bytes
+  pub long : length after ≡ length before
+  pub is : take next after ≡ take at before ++ bytes
+
+-- The last bytes of a list of 21, from a place on, are a space and the number in decimal.
+pub record Spelt (n from : ℕ) (list : List ℕ) : Type 0 where
+  pub inside : from ≤ 21
+  pub long : length list ≡ 21
+  pub is : drop from list ≡ 32 ∷ digits 20 n
+
+-- Two numbers, each behind a word, a space before each number, and the end of the line.
+unfoldable pub lineText : List ℕ → ℕ → List ℕ → ℕ → List ℕ
+lineText word x between y =
+    (word ++ (32 ∷ digits 20 x)) ++ ((between ++ (32 ∷ digits 20 y)) ++ (10 ∷ []))
+
+-- Backlog and delay.
+abbrev pub figures : ℕ → ℕ → Figures
+figures backlog delay = record { backlog = backlog; delay = delay }

@@ -1,0 +1,2 @@
+// The route program's work: from its whole input to its whole text, in a lent buffer.
+mod text;
