@@ -19,8 +19,8 @@ use Rattle.meaning.proofs.server.Joining.{residual-is}
 use Rattle.meaning.proofs.route.Standing.{standing-ends}
 use Rattle.meaning.proofs.route.Written.{Sound, sound-lines, one-bucket, worked, join-clear, passes, written-start, written-hop}
 
--- the curve C
-c-sound : Sound C
+-- the curve C is sound
+pub c-sound : Sound C
 unfolding buckets isNormal
 c-sound = record { form = neighbours-sound C refl; ranged = omega arith; few = lit≤ tt }
 
@@ -57,9 +57,11 @@ table =
       p12 = (
         standing-ends
             (written-hop {s = port 5 2}
-            (written-hop {s = port 6 4} (written-start c-sound _) (lit≤ tt) (passes c-sound c32 (omega arith) (lit≤ tt) (λ r h. h) c-first))
+            (written-hop {s = port 6 4} (written-start c-sound _) (lit≤ tt)
+            (passes c-sound c32 (omega arith) (lit≤ tt) (λ r h. h) c-first))
             (lit≤ tt)
-            (passes c32 (one-bucket 3 38 (omega arith)) (omega arith) (lit≤ tt) (join-clear (omega arith) (omega arith) (omega arith)) second))
+            (passes c32 (one-bucket 3 38 (omega arith)) (omega arith) (lit≤ tt)
+            (join-clear (omega arith) (omega arith) (omega arith)) second))
             _ (record { backlog-is = c-joined .1; delay-is = c-joined .2 }),
         refl,
       );

@@ -91,7 +91,8 @@ pub data Onward (first : List Bucket) : List Figures → Option Server → List 
       → Onward first hops before f input (refusedAt r (length hops + 2))
   -- A hop, and on with the curve behind it.
   hop :
-      {hops : List Figures} {before : Option Server} {f : List Bucket} {input : List ℕ} {report : Report} (here : Figures) (g : List Bucket)
+      {hops : List Figures} {before : Option Server} {f : List Bucket} {input : List ℕ} {report : Report}
+      (here : Figures) (g : List Bucket)
       → length hops < 32 → (input ≡ [] → before ≡ none) → Clear (hopLines f before input)
       → FiguresOf f (serverIn (profileOf input)) here → Behind f (serverIn (profileOf input)) g
       → Onward first (hops ++ here ∷ []) (some (joinedWith before (serverIn (profileOf input)))) g (afterFirst input) report

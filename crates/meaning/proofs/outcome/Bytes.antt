@@ -17,6 +17,7 @@ use Rattle.meaning.proofs.outcome.Answers.{wins-code}
 
 -- ---- One outcome.
 
+-- what is written is written once
 filled-once :
     {ask : BytesQuestion} {before after after′ : List ℕ} {code count code′ count′ : ℕ}
     → Single (ask .Answer) → Filled ask before after code count → Filled ask before after′ code′ count′
@@ -134,7 +135,8 @@ pub record OnlyRefusedBytes (ask : BytesQuestion) (code : ℕ) : Type 0 where
 
 -- where an operand is refused it is so
 pub only-refused-bytes :
-    {ask : BytesQuestion} {code : ℕ} → UpTo 9 (ask .operands) → 1 ≤ code → Verdict (ask .operands) code → OnlyRefusedBytes ask code
+    {ask : BytesQuestion} {code : ℕ} → UpTo 9 (ask .operands) → 1 ≤ code → Verdict (ask .operands) code
+    → OnlyRefusedBytes ask code
 only-refused-bytes upto some (accepted clear e) = absurd (omega arith)
 only-refused-bytes upto some (rejected r w e) =
     record {
@@ -155,6 +157,7 @@ pub record FilledBytes (ask : BytesQuestion) (before after : List ℕ) (count : 
   pub written : after ≡ over bytes before
   pub beyond : drop count after ≡ drop count before
 
+-- such is what is written
 read-filled :
     {ask : BytesQuestion} {before after : List ℕ} {code count : ℕ} → Filled ask before after code count
     → FilledBytes ask before after count (take count after)

@@ -95,7 +95,8 @@ pub record HasPart (ask : Question) (at room : ℕ) (before : List ℕ) : Type 0
   pub outcome : PartOutcome ask at room before after code count
 
 -- where every list has one, so has every part of a table
-pub part-outcome : {ask : Question} {at room : ℕ} {before : List ℕ} → HasOutcome ask (part at room before) → HasPart ask at room before
+pub part-outcome :
+    {ask : Question} {at room : ℕ} {before : List ℕ} → HasOutcome ask (part at room before) → HasPart ask at room before
 part-outcome h = record { after = _; code = h .code; count = h .count; outcome = in-part (h .outcome) }
 
 -- There is a code and a figure.
@@ -123,7 +124,8 @@ so-curve :
 so-curve o = record { after = _; code = _; count = _; outcome = o }
 
 so-bytes :
-    {ask : BytesQuestion} {before after : List ℕ} {code count : ℕ} → BytesOutcome ask before after code count → HasBytes ask before
+    {ask : BytesQuestion} {before after : List ℕ} {code count : ℕ} → BytesOutcome ask before after code count
+    → HasBytes ask before
 so-bytes o = record { after = _; code = _; count = _; outcome = o }
 
 -- A question whose operands can be decided, and which has a single exact answer where none is refused, has an outcome.

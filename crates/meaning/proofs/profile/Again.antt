@@ -34,8 +34,7 @@ unfolding writing
 only-written operands p clear = only-bytes (single-writing operands p) clear refl
 
 -- a curve that no line refuses,
-pub curve-written :
-    (l : List ℕ) → Clear (curveLines l) → OnlyBytes (writingCurve l) (written edition (curve (curveOf l)))
+pub curve-written : (l : List ℕ) → Clear (curveLines l) → OnlyBytes (writingCurve l) (written edition (curve (curveOf l)))
 curve-written l clear = only-written (curveLines l) (curve (curveOf l)) clear
 
 -- and a server that none refuses
@@ -46,11 +45,13 @@ server-written s clear = only-written (serverLines s) (server s) clear
 pub read-written : {p : Profile} → ReadsBack p → OnlyRead (written edition p) p
 read-written {p} back = subst (OnlyRead (written edition p)) (back .same) (only-read (written edition p) (back .clear))
 
+-- a curve that no line refuses reads back,
 curve-back : (l : List ℕ) → Clear (curveLines l) → ReadsBack (curve (curveOf l))
 curve-back l clear =
     let fits = clear-fits l clear in
     read-back-curve (curveOf l) (clear-form l clear) (fits-ranged fits) (fits-few fits)
 
+-- and a server that none refuses
 server-back : (s : Server) → Clear (serverLines s) → ReadsBack (server s)
 server-back s clear = read-back-server s (server-stable (λ out. clear RANGE (refl, out)))
 
@@ -145,7 +146,10 @@ pub record FileAgain (file before after : List ℕ) (code count : ℕ) : Type 0 
   pub bytes-are : take count after ≡ file
   pub buffer-is : after ≡ over file before
 
-file-again : {file before after : List ℕ} {code count : ℕ} → Same code count 0 (length file) after (over file before) → FileAgain file before after code count
+-- the only outcome, given room, is that
+file-again :
+    {file before after : List ℕ} {code count : ℕ} → Same code count 0 (length file) after (over file before)
+    → FileAgain file before after code count
 file-again {file} {before} same =
     record {
       code-is = same .code-same;
@@ -159,6 +163,7 @@ is-curve : (p : Profile) → kindOf p ≡ curveKind → p ≡ curve (bucketsOf p
 is-curve (curve f) e = refl
 is-curve (server s) e = absurd (omega arith)
 
+-- as of a server
 is-server : (p : Profile) → kindOf p ≡ serverKind → p ≡ server (serverIn p)
 is-server (curve f) e = absurd (omega arith)
 is-server (server s) e = refl
@@ -177,20 +182,23 @@ module _
 
     -- Where the kind is 1, the curve that stands in the list
     module _ (kind : x .kind ≡ curveKind) where
+      -- (it is the curve that the file holds,
       holds-curve : profileOf file ≡ curve (bucketsOf (profileOf file))
       holds-curve = is-curve (profileOf file) (sym (known .told .kind-same) ∙ kind)
 
+      -- its numbers are those in the list,
       read-list : readBack read (x .count) ≡ listOf (bucketsOf (profileOf file))
       read-list =
           let count : width * x .count ≡ length (listOf (bucketsOf (profileOf file)))
           = omega (arith, known .told .count-same, list-length (bucketsOf (profileOf file))) in
           rw (count, known .told .after-same) (over-start (listOf (bucketsOf (profileOf file))) list)
 
+      -- it is in normal form,
       form : NormalForm (bucketsOf (profileOf file))
       form = normal-stable (λ out. known .clear FORM (inr (rw holds-curve (inr (refl, out)))))
 
-      only-file :
-          OnlyBytes (writingCurve (readBack read (x .count))) file
+      -- and the file is what is written of it)
+      only-file : OnlyBytes (writingCurve (readBack read (x .count))) file
       only-file =
           rw read-list
           (subst (OnlyBytes (writingCurve (listOf f)))
@@ -214,10 +222,12 @@ module _
 
     -- Where it is 2, the server that the reader tells
     module _ (kind : x .kind ≡ serverKind) where
+      -- (it is the server that the file holds,
       holds-server : profileOf file ≡ server (x .server)
       holds-server =
           is-server (profileOf file) (sym (known .told .kind-same) ∙ kind) ∙ ap server (sym (known .told .server-same))
 
+      -- and the file is what is written of it)
       only-server-file : OnlyBytes (writingServer (x .server)) file
       only-server-file =
           subst (OnlyBytes (writingServer (x .server))) (same-file holds-server)
@@ -237,7 +247,7 @@ module _
 
 -- ---- Room for every profile.
 
--- no line of some that a test decides is ROOM's, where none is above UNBOUNDED
+-- what wins among lines none of which is above UNBOUNDED is not ROOM
 not-room : {lines : Lines} {r : Refusal} → UpTo 8 lines → Wins lines r → number r ≢ 10
 not-room {r = r} upto w e = omega (arith, upto r (w .holds), e)
 

@@ -19,15 +19,18 @@ abbrev pub Binary : List ℕ → Type 0
 Binary [] = Unit {0}
 Binary (b ∷ l) = (b < 2) × Binary l
 
+-- so it is of two such lists together,
 pub binary-append : (l r : List ℕ) → Binary l → Binary r → Binary (l ++ r)
 binary-append [] r h k = k
 binary-append (b ∷ l) r h k = (h .0, binary-append l r (h .1) k)
 
+-- of the first so many,
 pub binary-take : (n : ℕ) (l : List ℕ) → Binary l → Binary (take n l)
 binary-take zero l h = tt
 binary-take (suc n) [] h = tt
 binary-take (suc n) (b ∷ l) h = (h .0, binary-take n l (h .1))
 
+-- and of the others
 pub binary-drop : (n : ℕ) (l : List ℕ) → Binary l → Binary (drop n l)
 binary-drop zero l h = h
 binary-drop (suc n) [] h = tt
@@ -69,6 +72,7 @@ spelt-mod (suc w) x =
     let more : suc w ≡ 1 + w = omega arith in
     cc (length-bits w x, spelt-mod w x, more, mod-pow-add x 1 w)
 
+-- if it fits
 pub spelt-bits : (w x : ℕ) → x < 2 ^ w → spelt (bitsOf w x) ≡ x
 spelt-bits w x h = spelt-mod w x ∙ mod-eq-of-lt h
 
@@ -132,14 +136,17 @@ spelt-one (b ∷ l) h some =
 abbrev pub zeroBits : ℕ → List ℕ
 zeroBits n = replicate n 0
 
+-- they are bits,
 pub binary-zeros : (n : ℕ) → Binary (zeroBits n)
 binary-zeros zero = tt
 binary-zeros (suc n) = (omega arith, binary-zeros n)
 
+-- there is no 1 among them,
 pub zeros-no-one : (n : ℕ) → List·Memᴰ 1 (zeroBits n) → ⊥
 zeros-no-one zero m = elim m [ ]
 zeros-no-one (suc n) m = elim (List·Memᴰ·cases-cons m) [ inl e ↦ omega arith | inr k ↦ zeros-no-one n k ]
 
+-- and bits among which there is none are such
 pub no-one-zeros : (l : List ℕ) → Binary l → (List·Memᴰ 1 l → ⊥) → l ≡ zeroBits (length l)
 no-one-zeros [] h none = refl
 no-one-zeros (b ∷ l) h none =
@@ -156,16 +163,18 @@ pub length-packed : (w x : ℕ) (fs : List Field) → length (packed (w bits x �
 unfolding packed
 length-packed w x fs = length-append (bitsOf w x) (packed fs) ∙ ap (λ (n : ℕ). n + length (packed fs)) (length-bits w x)
 
--- packed fields are bits
+-- packed fields are bits,
 pub binary-packed : (fs : List Field) → Binary (packed fs)
 unfolding packed
 binary-packed [] = tt
 binary-packed (w bits x ∷ fs) = binary-append (bitsOf w x) (packed fs) (binary-bits w x) (binary-packed fs)
 
+-- so are the bits of a file,
 pub binary-file : (file : List ℕ) → Binary (fileBits file)
 unfolding fileBits
 binary-file file = binary-packed _
 
+-- eight for each byte
 pub length-file-bits : (file : List ℕ) → length (fileBits file) ≡ 8 * length file
 unfolding fileBits packed
 length-file-bits [] = refl
@@ -176,7 +185,8 @@ pub file-bits-append : (file rest : List ℕ) → fileBits (file ++ rest) ≡ fi
 unfolding fileBits packed
 file-bits-append [] rest = refl
 file-bits-append (x ∷ file) rest =
-    ap (λ (l : List ℕ). bitsOf 8 x ++ l) (file-bits-append file rest) ∙ sym (append-assoc (bitsOf 8 x) (fileBits file) (fileBits rest))
+    ap (λ (l : List ℕ). bitsOf 8 x ++ l) (file-bits-append file rest)
+    ∙ sym (append-assoc (bitsOf 8 x) (fileBits file) (fileBits rest))
 
 -- Every number of the file is a byte.
 abbrev pub Bytes : List ℕ → Type 0

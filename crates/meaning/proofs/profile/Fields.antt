@@ -76,11 +76,14 @@ field-append file rest at w h =
     let all = fileBits file in
     let inside : at ≤ length all = omega (arith, length-file-bits file) in
     let within : w ≤ length (drop at all) = omega (arith, length-drop at all, length-file-bits file) in
-    ap (λ (l : List ℕ). spelt (take w l)) (ap (drop at) (file-bits-append file rest) ∙ drop-append-le at all (fileBits rest) inside)
+    ap (λ (l : List ℕ). spelt (take w l))
+    (ap (drop at) (file-bits-append file rest) ∙ drop-append-le at all (fileBits rest) inside)
     ∙ ap spelt (take-append-le w (drop at all) (fileBits rest) within)
 
 -- the bit of a file at a position is one of its byte's
-pub bit-at : (file : List ℕ) (at : ℕ) → at < 8 * length file → getD (fileBits file) at 0 ≡ getD file (at / 8) 0 / 2 ^ (7 - at % 8) % 2
+pub bit-at :
+    (file : List ℕ) (at : ℕ) → at < 8 * length file
+    → getD (fileBits file) at 0 ≡ getD file (at / 8) 0 / 2 ^ (7 - at % 8) % 2
 unfolding fileBits packed
 bit-at [] at h = absurd (omega arith)
 bit-at (x ∷ file) at h =

@@ -32,11 +32,13 @@ abbrev pub padded : ℕ → Profile → List ℕ
 padded ed p = profileBits ed p ++ zeroBits (padWidth ed p)
 
 module _ (ed : ℕ) (p : Profile) where
+  -- they are bits,
   binary-padded : Binary (padded ed p)
   unfolding profileBits
   binary-padded =
       binary-append (profileBits ed p) (zeroBits (padWidth ed p)) (binary-packed (fields ed p)) (binary-zeros (padWidth ed p))
 
+  -- and come out even
   length-padded : length (padded ed p) ≡ 8 * byteCount ed p
   unfolding byteCount
   length-padded =
@@ -63,10 +65,12 @@ module _ (ed : ℕ) (p : Profile) where
 
 -- ---- How many bits and bytes.
 
+-- no field has no bit,
 no-bits : length (packed []) ≡ 0
 unfolding packed
 no-bits = refl
 
+-- and each bucket 60
 bucket-bits : (f : List Bucket) → length (packed (bucketFields f)) ≡ 60 * length f
 unfolding bucketFields
 bucket-bits [] = no-bits
@@ -208,7 +212,9 @@ module _ (file : List ℕ) where
   unfolding fields kindIn
   standing-curve ed f some h =
       let count : field file 8 6 + 1 ≡ length f = omega (arith, h .1 .1 .0) in
-      held-curve (h .1 .0) ∙ ap (λ (n : ℕ). curve (bucketsIn file 14 n)) count ∙ ap curve (standing-buckets file 14 f (h .1 .1 .1))
+      held-curve (h .1 .0)
+      ∙ ap (λ (n : ℕ). curve (bucketsIn file 14 n)) count
+      ∙ ap curve (standing-buckets file 14 f (h .1 .1 .1))
 
   -- or a server
   pub standing-server : (ed : ℕ) (s : Server) → Stands file 0 (fields ed (server s)) → profileOf file ≡ server s
@@ -216,17 +222,19 @@ module _ (file : List ℕ) where
   standing-server ed s h =
       held-server (omega (arith, h .1 .0)) ∙ ap server (same-server (h .1 .1 .0) (h .1 .1 .1 .0))
 
-  -- the padding is bits, as many as there are up to the byte's end
+  -- the padding is bits,
   pub binary-padding : Binary (padding file)
   unfolding padding
   binary-padding = binary-drop (length (profileBits (editionOf file) (profileOf file))) (fileBits file) (binary-file file)
 
   module _ (whole : length file ≡ bytesTaken file) where
+    -- of a file of the byte count required, as many as there are up to the byte's end
     pub padding-width : length (padding file) ≡ padWidth (editionOf file) (profileOf file)
     unfolding padding bytesTaken
     padding-width =
         length-drop (length (profileBits (editionOf file) (profileOf file))) (fileBits file)
-        ∙ ap (λ (n : ℕ). n - length (profileBits (editionOf file) (profileOf file))) (length-file-bits file ∙ ap (λ (n : ℕ). 8 * n) whole)
+        ∙ ap (λ (n : ℕ). n - length (profileBits (editionOf file) (profileOf file)))
+        (length-file-bits file ∙ ap (λ (n : ℕ). 8 * n) whole)
 
     -- the padding of a file of the byte count required, as one more field
     pub padding-field :
@@ -240,6 +248,7 @@ module _ (file : List ℕ) where
 
 -- A file that has the bytes its header requires, and what stands behind it:
 module _ (file rest : List ℕ) (whole : bytesTaken file ≤ length file) where
+  -- (there are two bytes or more)
   long-enough : 1 < length file
   unfolding bytesTaken
   long-enough = omega (arith, more-than-one-byte (editionOf file) (profileOf file))
@@ -254,6 +263,7 @@ module _ (file rest : List ℕ) (whole : bytesTaken file ≤ length file) where
   unfolding kindIn
   kind-append = field-append file rest 4 4 (omega (arith, long-enough))
 
+  -- a curve is the same,
   append-curve : kindIn file ≡ curveKind → profileOf (file ++ rest) ≡ profileOf file
   append-curve e =
       let inside : 14 + 60 * (field file 8 6 + 1) ≤ 8 * length file = omega (arith, curve-taken file e) in
@@ -262,6 +272,7 @@ module _ (file rest : List ℕ) (whole : bytesTaken file ≤ length file) where
       ∙ ap curve (buckets-append file rest 14 (field file 8 6 + 1) inside)
       ∙ sym (held-curve file e)
 
+  -- and a server,
   append-server : kindIn file ≢ curveKind → profileOf (file ++ rest) ≡ profileOf file
   append-server e =
       let inside : 6 ≤ length file = omega (arith, server-taken file e) in
@@ -269,7 +280,7 @@ module _ (file rest : List ℕ) (whole : bytesTaken file ≤ length file) where
       ∙ ap server (same-server (field-append file rest 8 20 (omega arith)) (field-append file rest 28 20 (omega arith)))
       ∙ sym (held-server file e)
 
-  -- the profile,
+  -- so the profile is,
   pub held-append : profileOf (file ++ rest) ≡ profileOf file
   held-append = elim (ℕ-discrete (kindIn file) curveKind) [ yes e ↦ append-curve e | no e ↦ append-server e ]
 

@@ -123,7 +123,8 @@ out-of-order =
 
 -- P11's curve read into a list of one number: 10
 pub list-too-short :
-    (n : ℕ) {after : List ℕ} {x : Reading} → ReadOutcome p11-curve-file (n ∷ []) after x → SameReading x (refusedAs 10) after (n ∷ [])
+    (n : ℕ) {after : List ℕ} {x : Reading} → ReadOutcome p11-curve-file (n ∷ []) after x
+    → SameReading x (refusedAs 10) after (n ∷ [])
 unfolding buckets flat listOf
 list-too-short n = p11-curve-read .without-room (lit≤ tt)
 
@@ -166,7 +167,9 @@ unordered = listOf (buckets (3 ∷ 20 ∷ 10 ∷ 2 ∷ []))
 -- 7
 pub unordered-list : OnlyRefusedBytes (writingCurve unordered) 7
 unfolding buckets flat curveOf listOf isNormal
-unordered-list = refused-curve unordered (lit≤ tt) (form-wrong unordered (omega arith) (neighbours-refute (curveOf unordered) refl))
+unordered-list =
+    refused-curve unordered (lit≤ tt)
+    (form-wrong unordered (omega arith) (neighbours-refute (curveOf unordered) refl))
 
 -- P11's curve written into nine bytes, or fewer: 10
 pub buffer-too-short :

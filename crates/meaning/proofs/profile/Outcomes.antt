@@ -42,7 +42,8 @@ pub single-writing : (operands : Lines) (p : Profile) → Single (writing operan
 unfolding writing
 single-writing operands p f g e e′ = e ∙ sym e′
 
--- What the caller gets to see of two readings is the same: the code, the kind, the count, the server, and the whole list or table.
+-- What the caller gets to see of two readings is the same: the code, the kind, the count, the server, and the whole list or
+-- table.
 pub record SameReading (x y : Reading) (after after′ : List ℕ) : Type 0 where
   pub code-same : x .code ≡ y .code
   pub kind-same : x .kind ≡ y .kind
@@ -125,6 +126,7 @@ readAs p = record { code = 0; kind = kindOf p; count = length (bucketsOf p); ser
 abbrev pub refusedAs : ℕ → Reading
 refusedAs code = record { code = code; kind = 0; count = 0; server = noServer }
 
+-- that is what a refusal tells
 told-refused : (file : List ℕ) {code : ℕ} → 1 ≤ code → Told file (refusedAs code)
 told-refused file some = record { accepted = λ e. absurd (omega arith); refused = λ _. (refl, refl) }
 
@@ -237,7 +239,8 @@ pub record Read (file before after : List ℕ) (x : Reading) : Type 0 where
   pub told : SameReading x (readAs (profileOf file)) after (over (listOf (bucketsOf (profileOf file))) before)
 
 -- code 0 is such
-pub read-file : {file before after : List ℕ} {x : Reading} → ReadOutcome file before after x → x .code ≡ 0 → Read file before after x
+pub read-file :
+    {file before after : List ℕ} {x : Reading} → ReadOutcome file before after x → x .code ≡ 0 → Read file before after x
 unfolding reading
 read-file {file} o none =
     let clear : Clear (fileLines file) = λ r h. code-zero (outcome-code (o .list)) .0 none r (inl h) in

@@ -10,13 +10,13 @@ use native.Mathlib.Omega.{arith}
 use lib.Dec.{lit≤}
 use lib.ListN.{length, length-append}
 use Rattle.meaning.specs.Curve.{width, curveOf, NormalForm}
-use Rattle.meaning.specs.Refusal.{HEADER, LENGTH, PAD, LIST, COUNT, RANGE, FORM, number, Clear, Verdict, accepted, rejected, AllInRange, Uneven, curveLines}
+use Rattle.meaning.specs.Refusal.{HEADER, LENGTH, PAD, LIST, COUNT, RANGE, FORM, number, _when_, _or_, Clear, Verdict, accepted, rejected, AllInRange, Uneven, listLines, curveLines}
 use Rattle.meaning.specs.Server.{Server}
 use Rattle.meaning.specs.ServerQuestions.{ServerInRange}
 use Rattle.meaning.specs.Profile.{edition, curveKind, serverKind, Profile, curve, server, editionOf, kindIn, profileOf, bytesTaken, padding, profileLines, fileLines, writing}
 use Rattle.meaning.proofs.Order.{le-or-lt}
 use Rattle.meaning.proofs.Lists.{curve-use}
-use Rattle.meaning.proofs.outcome.Outcomes.{number-positive, From, from-when, from-or, up-to-when, up-to-or, line-hit, line-miss, refused-first, refused-then}
+use Rattle.meaning.proofs.outcome.Outcomes.{number-positive, UpTo, From, from-when, from-or, up-to-when, up-to-or, line-hit, line-miss, refused-first, refused-then}
 use Rattle.meaning.proofs.outcome.Slips.{list-wins}
 use Rattle.meaning.proofs.outcome.Answers.{curve-up-to, Taken, list-clear}
 use Rattle.meaning.proofs.outcome.Demands.{server-up-to}
@@ -37,37 +37,46 @@ unfolding number
 header-wrong file h =
     rejected HEADER (record { holds = inl (inl (inl (refl, h))); smallest = λ r _. number-positive r }) refl
 
--- the lines of a profile come after those of its file
-profile-from : (p : Profile) → From 3 (profileLines p)
+-- the lines of a file itself come first,
+file-first : {Header Length Pad : Type 0} → UpTo 3 (HEADER when Header or LENGTH when Length or PAD when Pad)
 unfolding number
-profile-from (curve f) = from-or (from-when RANGE (lit≤ tt)) (from-when FORM (lit≤ tt))
-profile-from (server s) = from-when RANGE (lit≤ tt)
+file-first = up-to-or (up-to-or (up-to-when HEADER (lit≤ tt)) (up-to-when LENGTH (lit≤ tt))) (up-to-when PAD (lit≤ tt))
+
+-- and those of its profile after them
+profile-then : (p : Profile) → From 3 (profileLines p)
+unfolding number
+profile-then (curve f) = from-or (from-when RANGE (lit≤ tt)) (from-when FORM (lit≤ tt))
+profile-then (server s) = from-when RANGE (lit≤ tt)
 
 module _ (file : List ℕ) (header : RightHeader file) where
   -- a byte count that is not what the header requires: 2
   pub length-wrong : length file ≢ bytesTaken file → Verdict (fileLines file) 2
   unfolding number
   length-wrong h =
-      refused-first {n = 3} (up-to-or (up-to-or (up-to-when HEADER (lit≤ tt)) (up-to-when LENGTH (lit≤ tt))) (up-to-when PAD (lit≤ tt)))
-      (profile-from (profileOf file)) (lit≤ tt)
-      (refused-first {n = 2} (up-to-or (up-to-when HEADER (lit≤ tt)) (up-to-when LENGTH (lit≤ tt))) (from-when PAD (lit≤ tt)) (lit≤ tt)
+      refused-first file-first (profile-then (profileOf file)) (lit≤ tt)
+      (refused-first {n = 2} (up-to-or (up-to-when HEADER (lit≤ tt)) (up-to-when LENGTH (lit≤ tt))) (from-when PAD (lit≤ tt))
+      (lit≤ tt)
       (refused-then (line-miss (no-header file header)) (line-hit LENGTH (inl h))))
 
   module _ (whole : length file ≡ bytesTaken file) where
+    -- where header and length are right neither refuses
+    framed : Verdict
+        (HEADER when ((length file ≡ 0) ⊎ (editionOf file ≢ edition) ⊎ ((kindIn file ≢ curveKind) × (kindIn file ≢ serverKind)))
+        or LENGTH when ((length file ≢ bytesTaken file) ⊎ ((kindIn file ≡ curveKind) × (length file ≡ 1)))) 0
+    framed = refused-then (line-miss (no-header file header)) (line-miss (no-length file whole))
+
     -- a padding bit that is 1: 3
     pub pad-wrong : List·Memᴰ 1 (padding file) → Verdict (fileLines file) 3
     unfolding number
     pad-wrong m =
-        refused-first {n = 3}
-        (up-to-or (up-to-or (up-to-when HEADER (lit≤ tt)) (up-to-when LENGTH (lit≤ tt))) (up-to-when PAD (lit≤ tt)))
-        (profile-from (profileOf file)) (lit≤ tt)
-        (refused-then (refused-then (line-miss (no-header file header)) (line-miss (no-length file whole))) (line-hit PAD m))
+        refused-first file-first (profile-then (profileOf file)) (lit≤ tt) (refused-then framed (line-hit PAD m))
 
     -- and otherwise what the profile's own lines say
     pub profile-decides :
-        {code : ℕ} → (List·Memᴰ 1 (padding file) → ⊥) → Verdict (profileLines (profileOf file)) code → Verdict (fileLines file) code
+        {code : ℕ} → (List·Memᴰ 1 (padding file) → ⊥) → Verdict (profileLines (profileOf file)) code
+        → Verdict (fileLines file) code
     profile-decides none v =
-        refused-then (refused-then (refused-then (line-miss (no-header file header)) (line-miss (no-length file whole))) (line-miss none)) v
+        refused-then (refused-then framed (line-miss none)) v
 
 -- ---- A file with something behind it, and a file cut short.
 
@@ -91,8 +100,9 @@ byte-behind file rest clear more =
     enough : bytesTaken file ≤ length file
     enough = omega (arith, whole)
 
--- a file that is accepted cut short, its first byte and not all: 2
-pub cut-short : (file rest : List ℕ) → Clear (fileLines (file ++ rest)) → 1 ≤ length file → 1 ≤ length rest → Verdict (fileLines file) 2
+-- of a file that is accepted some bytes, but not all: 2
+pub cut-short :
+    (file rest : List ℕ) → Clear (fileLines (file ++ rest)) → 1 ≤ length file → 1 ≤ length rest → Verdict (fileLines file) 2
 unfolding editionOf kindIn
 cut-short file rest clear some more =
     length-wrong file
@@ -145,8 +155,14 @@ module _ (l : List ℕ) where
   unfolding number
   list-wrong h = rejected LIST (list-wins l h) refl
 
+  -- FORM comes after the lines of a list
+  list-first : UpTo 6 (listLines width l (curveOf l))
+  unfolding number
+  list-first = up-to-or (up-to-or (up-to-when LIST (lit≤ tt)) (up-to-when COUNT (lit≤ tt))) (up-to-when RANGE (lit≤ tt))
+
   -- A list that comes out even, with a bucket:
   module _ (even : length l % width ≡ 0) (some : 1 ≤ length (curveOf l)) where
+    -- (LIST does not hold of it)
     no-list : Uneven width l → ⊥
     no-list (inl none) = omega (arith, curve-use l)
     no-list (inr uneven) = uneven even
@@ -155,19 +171,16 @@ module _ (l : List ℕ) where
     pub count-wrong : 64 < length (curveOf l) → Verdict (curveLines l) 5
     unfolding number
     count-wrong many =
-        refused-first {n = 6}
-        (up-to-or (up-to-or (up-to-when LIST (lit≤ tt)) (up-to-when COUNT (lit≤ tt))) (up-to-when RANGE (lit≤ tt)))
-        (from-when FORM (lit≤ tt)) (lit≤ tt)
-        (refused-first {n = 5} (up-to-or (up-to-when LIST (lit≤ tt)) (up-to-when COUNT (lit≤ tt))) (from-when RANGE (lit≤ tt)) (lit≤ tt)
+        refused-first list-first (from-when FORM (lit≤ tt)) (lit≤ tt)
+        (refused-first {n = 5} (up-to-or (up-to-when LIST (lit≤ tt)) (up-to-when COUNT (lit≤ tt))) (from-when RANGE (lit≤ tt))
+        (lit≤ tt)
         (refused-then (line-miss no-list) (line-hit COUNT many)))
 
     -- a rate or burst outside its range: 6
     pub range-wrong : length (curveOf l) ≤ 64 → (AllInRange (curveOf l) → ⊥) → Verdict (curveLines l) 6
     unfolding number
     range-wrong few out =
-        refused-first {n = 6}
-        (up-to-or (up-to-or (up-to-when LIST (lit≤ tt)) (up-to-when COUNT (lit≤ tt))) (up-to-when RANGE (lit≤ tt)))
-        (from-when FORM (lit≤ tt)) (lit≤ tt)
+        refused-first list-first (from-when FORM (lit≤ tt)) (lit≤ tt)
         (refused-then (refused-then (line-miss no-list) (line-miss (λ many. omega arith))) (line-hit RANGE out))
 
   -- a list that is taken and is not in normal form: 7

@@ -25,6 +25,7 @@ use Rattle.meaning.proofs.profile.Files.{padWidth, padded, written-leng
 -- A file's header is right: it is not empty, its edition is 1, and its kind 1 or 2.
 pub record RightHeader (file : List ℕ) : Type 0 where
   pub filled : 1 ≤ length file
+  -- its edition is 1,
   pub first : editionOf file ≡ edition
   pub kind : (kindIn file ≡ curveKind) ⊎ (kindIn file ≡ serverKind)
 
@@ -104,6 +105,7 @@ module _ (p : Profile) (stands : Stands (fileOf p) 0 (fields edition p)) (same :
   first : editionOf (fileOf p) ≡ edition
   first = edition-first (fileOf p) p stands
 
+  -- it has the bytes that its header requires,
   taken : length (fileOf p) ≡ bytesTaken (fileOf p)
   unfolding bytesTaken
   taken = written-length edition p ∙ ap₂ byteCount (sym first) (sym same)
@@ -113,6 +115,7 @@ module _ (p : Profile) (stands : Stands (fileOf p) 0 (fields edition p)) (same :
   unfolding padding
   zero-padding = rw (first, same, written-bits) (drop-append-seam (profileBits edition p) (zeroBits (padWidth edition p)))
 
+  -- its header is right,
   header : RightHeader (fileOf p)
   header =
       record {
@@ -121,6 +124,7 @@ module _ (p : Profile) (stands : Stands (fileOf p) 0 (fields edition p)) (same :
         kind = rw (kind-next (fileOf p) edition p stands) (kind-known p);
       }
 
+  -- and no line holds of it but those of the profile
   reads-back : Clear (profileLines p) → ReadsBack p
   reads-back sound = record { clear = clear; same = same }
     where
@@ -172,9 +176,11 @@ read-back-server s ranged = reads-back (server s) stands same sound
 -- a file of bytes in which the fields of the profile that it holds stand, of the byte count required and with no 1 in the
 -- padding, is that profile's file
 module _ (file : List ℕ) (whole : length file ≡ bytesTaken file) (no-one : List·Memᴰ 1 (padding file) → ⊥) where
+  -- the padding is zero bits,
   padding-zeros : padding file ≡ zeroBits (padWidth (editionOf file) (profileOf file))
   padding-zeros = no-one-zeros (padding file) (binary-padding file) no-one ∙ ap zeroBits (padding-width file whole)
 
+  -- and the bytes are those of the file
   standing-written :
       Stands file 0 (fields (editionOf file) (profileOf file)) → Bytes file → written (editionOf file) (profileOf file) ≡ file
   unfolding written padding profileBits byteCount bytesTaken

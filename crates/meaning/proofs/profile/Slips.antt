@@ -58,8 +58,8 @@ module _ {before after : List ℕ} {x : Reading} where
 
   -- a right file cut short, and zeros read in place of the rest: that is 2
   pub rest-made-up :
-      (file rest : List ℕ) → Clear (fileLines (file ++ rest)) → 1 ≤ length file → 1 ≤ length rest → ReadOutcome file before after x
-      → x .code ≡ 2
+      (file rest : List ℕ) → Clear (fileLines (file ++ rest)) → 1 ≤ length file → 1 ≤ length rest
+      → ReadOutcome file before after x → x .code ≡ 2
   rest-made-up file rest clear some more o =
       only-refused (lit≤ tt) (cut-short file rest clear some more) .whatever-list o .code-same
 
@@ -93,10 +93,14 @@ module _ {file : List ℕ} {p : Profile} (known : OnlyRead file p) {before : Lis
   pub reads-nothing :
       take (length (listOf (bucketsOf p))) before ≢ listOf (bucketsOf p) → ReadOutcome file before before x → x .code ≡ 0 → ⊥
   reads-nothing other o none =
-      other (ap (take (length (listOf (bucketsOf p)))) (only-reading known o none .after-same) ∙ over-start (listOf (bucketsOf p)) before)
+      other
+      (ap (take (length (listOf (bucketsOf p)))) (only-reading known o none .after-same)
+      ∙ over-start (listOf (bucketsOf p)) before)
 
-  -- one that makes up the kind, the count or the server
-  pub invented-reading : {after : List ℕ} → ReadOutcome file before after x → x .code ≡ 0 → (x .kind ≡ kindOf p) × (x .count ≡ length (bucketsOf p)) × (x .server ≡ serverIn p)
+  -- one that makes up the kind, the count or the server: they are the profile's
+  pub invented-reading :
+      {after : List ℕ} → ReadOutcome file before after x → x .code ≡ 0
+      → (x .kind ≡ kindOf p) × (x .count ≡ length (bucketsOf p)) × (x .server ≡ serverIn p)
   invented-reading o none =
       let same = only-reading known o none in (same .kind-same, same .count-same, same .server-same)
 

@@ -2,34 +2,36 @@
 -- them; and a profile's file in front of other bytes is that profile.
 -- Assumes nothing.
 use mathlib.Core.Path.{_≡_, refl, sym, _∙_, ap, subst}
-use mathlib.Core.Logic.{inl, inr}
+use mathlib.Core.Logic.{inl, inr, _≢_}
 use mathlib.Core.List.{List, _∷_, _++_}
 use Prim.Native.Nat.{ℕ, _/_, _%_, _≤_, _<_}
 use native.Mathlib.Nat.{le-of-lt, div-one, div-div-eq-div-mul}
 use native.Mathlib.Decide.{ℕ-discrete}
 use native.Mathlib.Omega.{arith}
-use lib.ListN.{length, take, length-take, take-append-drop}
+use lib.ListN.{length, take, length-append, length-take, take-append-drop}
 use lib.Seq.{take-all, take-at, drop-at, length-take-le}
-use Rattle.meaning.specs.Curve.{NormalForm}
+use Rattle.meaning.specs.Curve.{Bucket, NormalForm}
+use Rattle.meaning.specs.Server.{Server}
 use Rattle.meaning.specs.Refusal.{HEADER, RANGE, FORM, Clear}
 use Rattle.meaning.specs.ServerQuestions.{ServerInRange}
 use Rattle.meaning.specs.Profile.{bitsOf, spelt, packed, fileBits, edition, curveKind, Profile, curve, server, written, field, editionOf, kindIn, profileOf, bytesTaken, profileLines, fileLines, bucketsOf, serverIn}
 use Rattle.meaning.specs.Route.{firstFile, afterFirst, IsCurve, IsServer, dueLines}
-use Rattle.meaning.proofs.Order.{le-or-lt}
+use Rattle.meaning.proofs.Order.{le-or-lt, not-apart}
 use Rattle.meaning.proofs.outcome.Stable.{normal-stable, server-stable}
 use Rattle.meaning.proofs.profile.Bits.{spelt-mod}
 use Rattle.meaning.proofs.profile.Fields.{field-append}
-use Rattle.meaning.proofs.profile.Files.{more-than-one-byte, curve-taken, server-taken, edition-append, kind-append, held-append, taken-append}
+use Rattle.meaning.proofs.profile.Files.{more-than-one-byte, held-curve, held-server, curve-taken, server-taken, edition-append, kind-append, held-append, taken-append}
 use Rattle.meaning.proofs.profile.RoundTrip.{clear-whole, ReadsBack}
 
 -- ---- The header by its bytes.
 
--- the upper bits of a byte are those of a quotient
+-- the upper four bits of a byte are those of its sixteenth,
 upper-four : (b : ℕ) (l : List ℕ) → take 4 (bitsOf 8 b ++ l) ≡ bitsOf 4 (b / 16)
 unfolding bitsOf
 upper-four b l =
     cc (div-div-eq-div-mul b 16 8, div-div-eq-div-mul b 16 4, div-div-eq-div-mul b 16 2, div-one (b / 16))
 
+-- and the upper six those of its quarter
 upper-six : (b : ℕ) (l : List ℕ) → take 6 (bitsOf 8 b ++ l) ≡ bitsOf 6 (b / 4)
 unfolding bitsOf
 upper-six b l =
@@ -56,6 +58,15 @@ kind-byte b l = spelt-mod 4 b
 pub count-byte : (b c : ℕ) (l : List ℕ) → field (b ∷ c ∷ l) 8 6 ≡ c / 4 % 64
 unfolding field fileBits packed bitsOf
 count-byte b c l = ap spelt (upper-six c (fileBits l)) ∙ spelt-mod 6 (c / 4)
+
+-- a file that holds a server is not of a curve's kind,
+pub kind-of-server : (file : List ℕ) {s : Server} → profileOf file ≡ server s → kindIn file ≢ curveKind
+kind-of-server file e kind = let z : _≡_ {A = ℕ} 0 1 = cc (held-curve file kind) in omega arith
+
+-- and one that holds a curve is
+pub kind-of-curve : (file : List ℕ) {f : List Bucket} → profileOf file ≡ curve f → kindIn file ≡ curveKind
+kind-of-curve file e =
+    not-apart (λ other. let z : _≡_ {A = ℕ} 0 1 = cc (held-server file other) in omega arith)
 
 -- two bytes fix the byte count required
 header-front : (a b : List ℕ) → 2 ≤ length a → bytesTaken (a ++ b) ≡ bytesTaken a
@@ -172,7 +183,36 @@ module _ (input : List ℕ) (clear : Clear (dueLines IsServer input)) where
       let lines = subst (λ (p : Profile). Clear (profileLines p)) due-server (file-profile input (λ r h. clear r (inr h))) in
       server-stable (λ out. lines RANGE (refl, out))
 
--- ---- A profile's file in front of other bytes.
+-- ---- A file in front of other bytes, and a file cut short.
+
+module _ (file rest : List ℕ) (whole : length file ≡ bytesTaken file) where
+  all-there : length file ≡ bytesTaken (file ++ rest)
+  all-there = whole ∙ sym (taken-append file rest (omega arith))
+
+  -- a file with the bytes that its header requires is the first file,
+  pub first-whole : firstFile (file ++ rest) ≡ file
+  unfolding firstFile
+  first-whole = take-at file rest (bytesTaken (file ++ rest)) all-there
+
+  -- and what stands behind it comes after
+  pub after-whole : afterFirst (file ++ rest) ≡ rest
+  unfolding afterFirst
+  after-whole = drop-at file rest (bytesTaken (file ++ rest)) all-there
+
+module _ (file rest : List ℕ) where
+  -- such a file cut short is a first file too,
+  pub first-cut : length (file ++ rest) ≡ bytesTaken (file ++ rest) → firstFile file ≡ file
+  unfolding bytesTaken
+  first-cut whole =
+      elim (le-or-lt 2 (length file)) [
+        | inl two ↦ cut-short file (omega (arith, header-front file rest two, length-append file rest))
+        | inr one ↦ cut-short file (omega (arith, more-than-one-byte (editionOf file) (profileOf file)))
+      ]
+
+  -- of the same kind
+  pub kind-cut : 1 ≤ length file → kindIn (file ++ rest) ≡ kindIn file
+  unfolding kindIn
+  kind-cut some = field-append file rest 4 4 (omega arith)
 
 -- An input begins with a profile: it holds the profile, its first bytes are the profile's file, and then comes the rest.
 pub record Begins (input : List ℕ) (p : Profile) (rest : List ℕ) : Type 0 where
@@ -182,14 +222,11 @@ pub record Begins (input : List ℕ) (p : Profile) (rest : List ℕ) : Type 0 wh
 
 -- so it does with the file of a profile that reads back
 pub begins : {p : Profile} → ReadsBack p → (rest : List ℕ) → Begins (written edition p ++ rest) p rest
-unfolding firstFile afterFirst
 begins {p} back rest =
     let file = written edition p in
     let whole = clear-whole file (back .clear) in
-    let enough : bytesTaken file ≤ length file = omega arith in
-    let taken : length file ≡ bytesTaken (file ++ rest) = whole ∙ sym (taken-append file rest enough) in
     record {
-      holds = held-append file rest enough ∙ back .same;
-      file = take-at file rest (bytesTaken (file ++ rest)) taken;
-      after = drop-at file rest (bytesTaken (file ++ rest)) taken;
+      holds = held-append file rest (omega arith) ∙ back .same;
+      file = first-whole file rest whole;
+      after = after-whole file rest whole;
     }

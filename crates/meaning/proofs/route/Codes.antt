@@ -8,7 +8,7 @@ use mathlib.Core.Option.{Option, none, some}
 use mathlib.Core.List.{List, [], _++_}
 use Prim.Native.Nat.{ℕ, _+_, _*_, _≤_, _<_}
 use native.Mathlib.Omega.{arith}
-use lib.ListN.{length, drop}
+use lib.ListN.{length, drop, replicate, length-replicate}
 use Rattle.meaning.specs.Curve.{Bucket, width, curveOf, listOf}
 use Rattle.meaning.specs.Server.{Server}
 use Rattle.meaning.specs.Refusal.{LARGE, ROOM, number, Lines, _when_, _or_, Clear, Verdict, accepted, rejected, TooLarge, Question, allLines, Outcome}
@@ -21,8 +21,8 @@ use Rattle.meaning.proofs.outcome.Answers.{code-zero, fits-few, readBac
 use Rattle.meaning.proofs.outcome.Demands.{answered-join}
 use Rattle.meaning.proofs.outcome.EveryInput.{Decided, decide-too-large}
 use Rattle.meaning.proofs.profile.Files.{held-few, held-server}
-use Rattle.meaning.proofs.profile.Outcomes.{only-read, only-refused, read-file}
-use Rattle.meaning.proofs.profile.Decided.{file-decided}
+use Rattle.meaning.proofs.profile.Outcomes.{OnlyRefused, only-read, only-refused, read-file}
+use Rattle.meaning.proofs.profile.Decided.{file-decided, read-has-outcome}
 use Rattle.meaning.proofs.server.HopByHop.{behind-unique}
 use Rattle.meaning.proofs.route.BackToBack.{same-start}
 use Rattle.meaning.proofs.route.Line.{sofar-in-range}
@@ -41,6 +41,15 @@ read-code {file} {before} {after} {x} o room = by-lines (file-decided file)
     by-lines (code, rejected r w e) =
         rw (only-refused (omega (arith, e, number-positive r)) (rejected r w e) .whatever-list o .code-same) (rejected r w e)
     by-lines (code, accepted clear e) = accepted clear (only-read file clear .with-room room o .code-same)
+
+-- a file that is refused whatever list is lent is refused by its lines
+pub refused-lines : {file : List ℕ} {code : ℕ} → OnlyRefused file code → Verdict (fileLines file) code
+refused-lines {file} known =
+    let lent : List ℕ = replicate (width * 64) 0 in
+    let read = read-has-outcome file lent in
+    rw (known .whatever-list (read .outcome) .code-same) at
+    (read-code (read .outcome)
+    (omega (arith, length-replicate {A = ℕ} (width * 64) 0, list-length (bucketsOf (profileOf file)), held-few file)))
 
 module _ (input : List ℕ) where
   module _ {before after : List ℕ} {x : Reading} (o : ReadOutcome (firstFile input) before after x) where
@@ -73,7 +82,8 @@ module _ (input : List ℕ) where
 -- ---- Joining.
 
 -- the code of joining is that of its lines
-pub join-code : (s next : Server) {code : ℕ} (joined : Server) → JoinOutcome s next code joined → Verdict (joinLines (some s) next) code
+pub join-code :
+    (s next : Server) {code : ℕ} (joined : Server) → JoinOutcome s next code joined → Verdict (joinLines (some s) next) code
 unfolding JoinOutcome
 join-code s next joined (ServerOutcome.refused v e) = rejected (v .why) (v .wins) (v .code-is)
 join-code s next joined (ServerOutcome.answered clear e x) = accepted clear e
@@ -84,9 +94,12 @@ pub data JoinedTo : Option Server → Server → Server → Type 0 where
   answers : {before s joined : Server} → JoinOutcome before s 0 joined → JoinedTo (some before) s joined
 
 -- no line of joining holds then, and it is the joined server
-joined-to : {before : Option Server} {s joined : Server} → JoinedTo before s joined → Clear (joinLines before s) × (joined ≡ joinedWith before s)
+joined-to :
+    {before : Option Server} {s joined : Server} → JoinedTo before s joined
+    → Clear (joinLines before s) × (joined ≡ joinedWith before s)
 joined-to alone = (λ r h. h, refl)
-joined-to (answers {before = before} {s = s} {joined = joined} o) = (code-zero (join-code before s joined o) .0 refl, answered-join before s o .definition)
+joined-to (answers {before = before} {s = s} {joined = joined} o) =
+    (code-zero (join-code before s joined o) .0 refl, answered-join before s o .definition)
 
 -- ---- A list with room for 64 buckets.
 
@@ -121,8 +134,8 @@ roomy {ask} {before} {after} {code} {count} (Outcome.refused v) room = by-line (
 -- ---- At a server.
 
 module _
-    {input first printed : List ℕ} {n : ℕ} {joined : Option Server} {f : List ℕ} {at : ℕ} (go : Going input first printed n joined f at)
-    (short : n < 32) (due : ServerDue input at joined)
+    {input first printed : List ℕ} {n : ℕ} {joined : Option Server} {f : List ℕ} {at : ℕ}
+    (go : Going input first printed n joined f at) (short : n < 32) (due : ServerDue input at joined)
   where
     -- the reader's code: a curve there, bytes that are missing, a server out of range
     pub read-refused :
@@ -138,7 +151,8 @@ module _
           {code : ℕ} → Verdict (portLines f (serverAt input at)) code → code ≢ 0 → Route input (refusedText code (n + 2))
       port-refused v nonzero =
           going-stops go short due
-          (port-decides (curveOf f) joined (drop at input) read (sofar-in-range (curveOf first) (go .hops) joined (curveOf f) (go .sofar))
+          (port-decides (curveOf f) joined (drop at input) read
+          (sofar-in-range (curveOf first) (go .hops) joined (curveOf f) (go .sofar))
           (rw (go .list-is) v) nonzero)
           nonzero
 

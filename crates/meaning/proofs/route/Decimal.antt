@@ -109,13 +109,26 @@ digits-decimal (suc most) n h =
       | inl many ↦
           rw (digits-more (suc most) n many)
           (subst (λ (x : ℕ). Decimal x (digits (suc most) (n / 10) ++ (48 + n % 10) ∷ [])) (div-add-mod' n 10)
-          (decimal-more (n % 10) (digits-decimal most (n / 10) (omega (arith, pow-succ' 10 (suc most)))) (omega arith) (omega arith)))
+          (decimal-more (n % 10) (digits-decimal most (n / 10) (omega (arith, pow-succ' 10 (suc most))))
+          (omega arith) (omega arith)))
       | inr few ↦ decimal-one (suc most) n few
     ]
 
 -- so for a number of 64 bits
 pub decimal : (n : ℕ) → n < 2 ^ 64 → Decimal n (digits 20 n)
 decimal n h = digits-decimal 19 n (lt-of-lt-of-le h (lit≤ tt))
+
+-- every byte that is printed for a number is a digit
+pub digits-each : (most n : ℕ) → AllDigits (digits most n)
+unfolding digits
+digits-each zero n = tt
+digits-each (suc most) n =
+    elim (le-or-lt 10 n) [
+      | inl many ↦
+          rw (digits-more most n many)
+          (each-more (digits most (n / 10)) (48 + n % 10) (digits-each most (n / 10)) (omega arith) (omega arith))
+      | inr few ↦ rw (digits-one most n few) (omega arith, omega arith, tt)
+    ]
 
 -- ---- No other text is.
 
@@ -125,6 +138,7 @@ record Ending (l : List ℕ) : Type 0 where
   final : ℕ
   split : l ≡ front ++ final ∷ []
 
+-- every text that is not empty has one
 ending : (c : ℕ) (l : List ℕ) → Ending (c ∷ l)
 ending c [] = record { front = []; final = c; split = refl }
 ending c (b ∷ l) =
@@ -132,7 +146,9 @@ ending c (b ∷ l) =
     record { front = c ∷ rest .front; final = rest .final; split = ap (λ (x : List ℕ). c ∷ x) (rest .split) }
 
 -- a decimal without its last digit is the decimal of the tenth
-decimal-front : {n : ℕ} (x : ℕ) (l : List ℕ) (c : ℕ) → Decimal n ((x ∷ l) ++ c ∷ []) → Decimal (n / 10) (x ∷ l) × (1 ≤ n / 10) × (48 + n % 10 ≡ c)
+decimal-front :
+    {n : ℕ} (x : ℕ) (l : List ℕ) (c : ℕ) → Decimal n ((x ∷ l) ++ c ∷ [])
+    → Decimal (n / 10) (x ∷ l) × (1 ≤ n / 10) × (48 + n % 10 ≡ c)
 unfolding spells
 decimal-front {n} x l c d =
     let parts = each-front (x ∷ l) c (d .each) in
@@ -199,10 +215,12 @@ digits-length (suc most) n (suc k) some h =
       | inr few ↦ rw (digits-one most n few) (omega arith)
     ]
 
--- ---- Digit by digit: what is printed for a number of up to 20 digits is what is printed for its tenth, and one digit more.
+-- ---- Digit by digit.
 
+-- what is printed for a number of up to 20 digits is what is printed for its tenth, and one digit more
 pub digits-step : (n : ℕ) → 10 ≤ n → n < 10 ^ 20 → digits 20 n ≡ digits 20 (n / 10) ++ (48 + n % 10) ∷ []
 digits-step n many h =
     digits-more 19 n many
     ∙ ap (λ (l : List ℕ). l ++ (48 + n % 10) ∷ [])
-    (decimal-digits 19 (n / 10) (digits 20 (n / 10)) (digits-decimal 19 (n / 10) (omega arith)) (digits-length 20 (n / 10) 19 (omega arith) (omega arith)))
+    (decimal-digits 19 (n / 10) (digits 20 (n / 10)) (digits-decimal 19 (n / 10) (omega arith))
+    (digits-length 20 (n / 10) 19 (omega arith) (omega arith)))

@@ -68,7 +68,8 @@ join-up-to (some b) s = up-to-or (up-to-or (up-to-when RANGE (lit≤ tt)) (up-to
 module _ (f : List Bucket) (before : Option Server) (input : List ℕ) where
   -- what is tested before the curve behind is known
   abbrev operandLines : Lines
-  operandLines = dueLines IsServer input or portLines (listOf f) (serverIn (profileOf input)) or joinLines before (serverIn (profileOf input))
+  operandLines =
+      dueLines IsServer input or portLines (listOf f) (serverIn (profileOf input)) or joinLines before (serverIn (profileOf input))
 
   -- it can be decided,
   operands-decided : Decided operandLines
@@ -90,7 +91,8 @@ module _ (f : List Bucket) (before : Option Server) (input : List ℕ) where
   unfolding number
   hop-decided = by-operands operands-decided
     where
-      with-behind : Clear operandLines → (g : List Bucket) → Behind f (serverIn (profileOf input)) g → Decided (hopLines f before input)
+      with-behind :
+          Clear operandLines → (g : List Bucket) → Behind f (serverIn (profileOf input)) g → Decided (hopLines f before input)
       with-behind clear g b =
           let large : Decided (LARGE when ((g : List Bucket) × Behind f (serverIn (profileOf input)) g × TooLarge g)) =
           decide-line LARGE
@@ -108,7 +110,9 @@ module _ (f : List Bucket) (before : Option Server) (input : List ℕ) where
 -- ---- From a place on.
 
 -- There is a report.
-record HasReport (first : List Bucket) (hops : List Figures) (before : Option Server) (f : List Bucket) (input : List ℕ) : Type 0 where
+record HasReport
+    (first : List Bucket) (hops : List Figures) (before : Option Server) (f : List Bucket) (input : List ℕ)
+    : Type 0 where
   report : Report
   onward : Onward first hops before f input report
 
@@ -148,14 +152,16 @@ from-here :
     → length hops + left ≡ 32 → Sofar first hops before f → HasReport first hops before f input
 from-here zero hops none input e sofar = absurd (omega (arith, ap length (sofar .1)))
 from-here zero hops (some joined) [] e sofar = at-end sofar
-from-here zero hops (some joined) (x ∷ input) e sofar = record { report = _; onward = bytes-left {hops = hops} (omega arith) not-ended }
+from-here zero hops (some joined) (x ∷ input) e sofar =
+    record { report = _; onward = bytes-left {hops = hops} (omega arith) not-ended }
 from-here (suc left) hops none input e sofar =
     at-server (omega arith) (λ _. refl) sofar
     (λ here joined g t. from-here left (hops ++ here ∷ []) (some joined) (afterFirst input) (simp length-append (omega arith)) t)
 from-here (suc left) hops (some joined) [] e sofar = at-end sofar
 from-here (suc left) hops (some joined) (x ∷ input) e sofar =
     at-server (omega arith) (λ z. absurd (not-ended z)) sofar
-    (λ here next g t. from-here left (hops ++ here ∷ []) (some next) (afterFirst (x ∷ input)) (simp length-append (omega arith)) t)
+    (λ here next g t.
+    from-here left (hops ++ here ∷ []) (some next) (afterFirst (x ∷ input)) (simp length-append (omega arith)) t)
 
 -- ---- From the first byte on.
 
@@ -176,7 +182,7 @@ route-has-text input =
     (text (x .0), record { report = x .0; reported = x .1; output-is = refl })
 
 -- The program's output is the only answer,
-single-route : (input : List ℕ) → Single (routing input .Answer)
+pub single-route : (input : List ℕ) → Single (routing input .Answer)
 unfolding routing
 single-route input a b v w = one-route v w
 

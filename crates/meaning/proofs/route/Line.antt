@@ -79,7 +79,8 @@ pub record Passable (f : List Bucket) (before : Option Server) (s : Server) : Ty
   pub joined-in-range : ServerInRange (joinedWith before s)
 
 -- a server that joins those before it is in range with them
-join-ranged : (before : Option Server) (s : Server) → ServerInRange s → Clear (joinLines before s) → ServerInRange (joinedWith before s)
+join-ranged :
+    (before : Option Server) (s : Server) → ServerInRange s → Clear (joinLines before s) → ServerInRange (joinedWith before s)
 join-ranged none s ranged clear = ranged
 join-ranged (some b) s ranged clear = server-stable (λ out. clear LARGE (inr (refl, (join b s, refl, out))))
 
@@ -150,7 +151,9 @@ Sofar first hops none f = (f ≡ first) × (hops ≡ [])
 Sofar first hops (some joined) f = Through first hops joined f
 
 -- so far every figure is small
-pub sofar-small : (first : List Bucket) (hops : List Figures) (before : Option Server) (f : List Bucket) → Sofar first hops before f → AllSmall hops
+pub sofar-small :
+    (first : List Bucket) (hops : List Figures) (before : Option Server) (f : List Bucket) → Sofar first hops before f
+    → AllSmall hops
 sofar-small first hops none f none-passed = rw (none-passed .1) tt
 sofar-small first hops (some joined) f t = t .small
 
@@ -206,8 +209,8 @@ module _
 
 -- so it goes on from no hop, and from some
 pub through :
-    (hops : List Figures) {f g : List Bucket} (before : Option Server) {s : Server} {here : Figures} {first : List Bucket} → length hops < 32
-    → Passable f before s → FiguresOf f s here → Behind f s g → Sofar first hops before f
+    (hops : List Figures) {f g : List Bucket} (before : Option Server) {s : Server} {here : Figures} {first : List Bucket}
+    → length hops < 32 → Passable f before s → FiguresOf f s here → Behind f s g → Sofar first hops before f
     → Through first (hops ++ here ∷ []) (joinedWith before s) g
 through hops {f} {g} none {s} {here} short known x b sofar =
     rw (← sofar .0)
@@ -227,6 +230,7 @@ abbrev Says : Report → Type 0
 Says (passed hops route) = RouteLine hops route
 Says (refusedAt r k) = Unit {0}
 
+-- from a place on it says so, where it holds up to there
 onward-line :
     {first : List Bucket} {hops : List Figures} {before : Option Server} {f : List Bucket} {input : List ℕ} {report : Report}
     → Onward first hops before f input report → Sofar first hops before f → Says report
@@ -237,7 +241,8 @@ onward-line (hop {hops = hops} {before = before} {f = f} {input = input} here g 
     onward-line onward (through hops before h (hop-passable f before input clear) x b t)
 
 -- the route's backlog is the last hop's, and its delay at most the hops' delays added
-pub route-line : {input : List ℕ} {hops : List Figures} {route : Figures} → Reported input (passed hops route) → RouteLine hops route
+pub route-line :
+    {input : List ℕ} {hops : List Figures} {route : Figures} → Reported input (passed hops route) → RouteLine hops route
 route-line (no-curve r w e) = let z : _≡_ {A = ℕ} 0 1 = cc in absurd (omega arith)
 route-line (from-curve clear onward) = onward-line onward (refl, refl)
 
@@ -272,7 +277,10 @@ pub record RouteOf (input : List ℕ) (hops : List Figures) (route : Figures) : 
   pub route-is : FiguresOf first joined route
 
 -- From a place on: what comes after the hops so far.
-record RestOf (first : List Bucket) (hops : List Figures) (before : Option Server) (f : List Bucket) (input : List ℕ) (all : List Figures) (route : Figures) : Type 0 where
+record RestOf
+    (first : List Bucket) (hops : List Figures) (before : Option Server) (f : List Bucket) (input : List ℕ)
+    (all : List Figures) (route : Figures)
+    : Type 0 where
   servers : List Server
   servers-are : ServersOf servers input
   more : List Figures
@@ -283,13 +291,18 @@ record RestOf (first : List Bucket) (hops : List Figures) (before : Option Serve
   route-is : FiguresOf first joined route
 
 -- What a report says of that: of its route, or nothing.
-data Stands (first : List Bucket) (hops : List Figures) (before : Option Server) (f : List Bucket) (input : List ℕ) : Report → Type 0 where
-  on : {all : List Figures} {route : Figures} → RestOf first hops before f input all route → Stands first hops before f input (passed all route)
+data Stands
+    (first : List Bucket) (hops : List Figures) (before : Option Server) (f : List Bucket) (input : List ℕ)
+    : Report → Type 0 where
+  on :
+      {all : List Figures} {route : Figures}
+      → RestOf first hops before f input all route → Stands first hops before f input (passed all route)
   off : {r : Refusal} {k : ℕ} → Stands first hops before f input (refusedAt r k)
 
 -- a hop stands before the rest,
 stands-hop :
-    {first : List Bucket} {hops : List Figures} (before : Option Server) (f : List Bucket) (input : List ℕ) {here : Figures} {g : List Bucket} {report : Report}
+    {first : List Bucket} {hops : List Figures} (before : Option Server) (f : List Bucket) (input : List ℕ)
+    {here : Figures} {g : List Bucket} {report : Report}
     → Clear (hopLines f before input) → FiguresOf f (serverIn (profileOf input)) here → Behind f (serverIn (profileOf input)) g
     → Stands first (hops ++ here ∷ []) (some (joinedWith before (serverIn (profileOf input)))) g (afterFirst input) report
     → Stands first hops before f input report
@@ -333,12 +346,14 @@ onward-stands (hop {before = before} {f = f} {input = input} here g h due clear 
 
 -- what it says of a route
 rest-of :
-    {first : List Bucket} {hops : List Figures} {before : Option Server} {f : List Bucket} {input : List ℕ} {all : List Figures} {route : Figures}
+    {first : List Bucket} {hops : List Figures} {before : Option Server} {f : List Bucket} {input : List ℕ}
+    {all : List Figures} {route : Figures}
     → Stands first hops before f input (passed all route) → RestOf first hops before f input all route
 rest-of (on rest) = rest
 
 -- each line of a report stands for what it says
-pub route-of : {input : List ℕ} {hops : List Figures} {route : Figures} → Reported input (passed hops route) → RouteOf input hops route
+pub route-of :
+    {input : List ℕ} {hops : List Figures} {route : Figures} → Reported input (passed hops route) → RouteOf input hops route
 route-of (no-curve r w e) = let z : _≡_ {A = ℕ} 0 1 = cc in absurd (omega arith)
 route-of {input} (from-curve clear onward) =
     let rest = rest-of (onward-stands onward) in

@@ -13,9 +13,11 @@ use Rattle.meaning.specs.Refusal.{COUNT, number, Clear, Verdict, accepte
 use Rattle.meaning.specs.Profile.{profileOf, bucketsOf, serverIn}
 use Rattle.meaning.specs.Route.{afterFirst, IsCurve, dueLines, joinedWith, hopLines, Figures, FiguresOf, Report, passed, refusedAt, Onward, ends, bytes-left, stops, hop, Reported, no-curve, from-curve, routeText, refusedText, hopTexts, text, Route}
 
--- The hops are passed; their servers joined are `joined`, `first` is the first curve and f the curve from the hop before. The rest
--- of the input decides.
-pub record Standing (input : List ℕ) (first : List Bucket) (hops : List Figures) (joined : Option Server) (f : List Bucket) (rest : List ℕ) : Type 0 where
+-- The hops are passed; their servers joined are `joined`, `first` is the first curve and f the curve from the hop before. The
+-- rest of the input decides.
+pub record Standing
+    (input : List ℕ) (first : List Bucket) (hops : List Figures) (joined : Option Server) (f : List Bucket) (rest : List ℕ)
+    : Type 0 where
   pub decides : (report : Report) → Onward first hops joined f rest report → Reported input report
 
 -- ---- The curve.

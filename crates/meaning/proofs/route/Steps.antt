@@ -102,7 +102,8 @@ module _
     module _ (short : n < 32) (due : ServerDue input at joined) where
       -- a server is refused: the program ends,
       pub going-stops :
-          {code : ℕ} → Verdict (hopLines (curveOf f) joined (drop at input)) code → code ≢ 0 → Route input (refusedText code (n + 2))
+          {code : ℕ} → Verdict (hopLines (curveOf f) joined (drop at input)) code → code ≢ 0
+          → Route input (refusedText code (n + 2))
       going-stops v nonzero =
           rw (go .count-is) (standing-stops (go .standing) (omega (arith, go .count-is)) (due-more due) v nonzero)
 
@@ -134,7 +135,8 @@ module _
             taken = sound-clear g (behind .normal .form) (fits-ranged fits) (fits-few fits);
             sofar =
                 rw (curve-list g)
-                (through (go .hops) joined early (hop-passable (curveOf f) joined (drop at input) clear) figures behind (go .sofar));
+                (through (go .hops) joined early (hop-passable (curveOf f) joined (drop at input) clear) figures behind
+                (go .sofar));
             standing =
                 rw (curve-list g, ← drop-drop (bytesTaken (drop at input)) at input)
                 (standing-hop (go .standing) early (due-more due) x g clear figures behind);
@@ -160,7 +162,8 @@ module _
 
       -- and so do the figures that backlog and delay answer, with codes that are 0
       pub going-answered :
-          (x : Figures) {code code′ : ℕ} → BacklogOutcome first joined code (x .backlog) → DelayOutcome first joined code′ (x .delay)
+          (x : Figures) {code code′ : ℕ}
+          → BacklogOutcome first joined code (x .backlog) → DelayOutcome first joined code′ (x .delay)
           → (code ≡ 0) × (code′ ≡ 0) × Route input (printed ++ routeText x)
       unfolding BacklogOutcome DelayOutcome
       going-answered x b d =

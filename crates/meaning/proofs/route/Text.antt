@@ -1,7 +1,8 @@
--- The text of a report: every number in it is below 2^64, so that it stands there as its decimal, and no text has more than
--- 1,145 bytes: 32 hop lines, 9 of at most 34 bytes and 23 of at most 35, and a route line of at most 34.
+-- The text of a report. Every number in it is below 2^64, so that it stands there as its decimal. No text has more than 1,145
+-- bytes: 32 hop lines, 9 of at most 34 bytes and 23 of at most 35, and a route line of at most 34. The text line by line, and
+-- what every output says.
 -- Assumes nothing.
-use mathlib.Core.Path.{_≡_, refl, sym, _∙_, ap}
+use mathlib.Core.Path.{_≡_, refl, sym, _∙_, ap, subst}
 use mathlib.Core.Logic.{inl, inr}
 use mathlib.Core.Option.{Option}
 use mathlib.Core.List.{List, [], _∷_, _++_, append-assoc, append-nil}
@@ -15,8 +16,8 @@ use Rattle.meaning.specs.Server.{Server}
 use Rattle.meaning.specs.Refusal.{Refusal, HEADER, LENGTH, PAD, LIST, COUNT, RANGE, FORM, UNBOUNDED, LARGE, ROOM, number}
 use Rattle.meaning.specs.Route.{Figures, Report, passed, refusedAt, Onward, ends, bytes-left, stops, hop, Reported, no-curve, from-curve, bytes, digits, numbers, hopText, routeText, refusedText, hopTexts, text, Route}
 use Rattle.meaning.proofs.Order.{le-or-lt}
-use Rattle.meaning.proofs.route.Decimal.{digits-length}
-use Rattle.meaning.proofs.route.Line.{Small, AllSmall, route-line}
+use Rattle.meaning.proofs.route.Decimal.{AllDigits, Decimal, decimal, digits-each, digits-length}
+use Rattle.meaning.proofs.route.Line.{Small, AllSmall, RouteLine, route-line, RouteOf, route-of}
 
 -- ---- Which profile is refused.
 
@@ -25,6 +26,7 @@ abbrev Placed : Report → Type 0
 Placed (passed hops route) = Unit {0}
 Placed (refusedAt r k) = (1 ≤ k) × (k ≤ 34)
 
+-- from a place on a report is so
 onward-placed :
     {first : List Bucket} {hops : List Figures} {before : Option Server} {f : List Bucket} {input : List ℕ} {report : Report}
     → Onward first hops before f input report → Placed report
@@ -59,6 +61,7 @@ numbers-length : (n : ℕ) (l : List ℕ) → length (numbers (n ∷ l)) ≡ 1 +
 unfolding numbers bytes
 numbers-length n l = omega (arith, length-append (digits 20 n) (numbers l))
 
+-- no number has no byte
 no-numbers : length (numbers []) ≡ 0
 unfolding numbers
 no-numbers = refl
@@ -67,7 +70,15 @@ no-numbers = refl
 small-length : (n : ℕ) → n < 2 ^ 41 → length (digits 20 n) ≤ 13
 small-length n h = digits-length 20 n 13 (lit≤ tt) (lt-of-lt-of-le h (lit≤ tt))
 
--- two figures have at most 28 bytes
+-- both figures stand in the text as their decimals,
+pub figures-decimal :
+    (x : Figures) → Small x → Decimal (x .backlog) (digits 20 (x .backlog)) × Decimal (x .delay) (digits 20 (x .delay))
+figures-decimal x h = (
+  decimal (x .backlog) (lt-of-lt-of-le (h .backlog-small) (lit≤ tt)),
+  decimal (x .delay) (lt-of-lt-of-le (h .delay-small) (lit≤ tt)),
+)
+
+-- and have at most 28 bytes with the spaces before them
 figures-length : (x : Figures) → Small x → length (numbers (x .backlog ∷ x .delay ∷ [])) ≤ 28
 figures-length x h =
     omega (
@@ -139,7 +150,8 @@ route-length r = omega (arith, ap length (r .output-is), text-length (r .report)
 -- ---- Line by line.
 
 -- one hop more is one line more,
-pub hop-texts-more : (n : ℕ) (l : List Figures) (x : Figures) → hopTexts n (l ++ x ∷ []) ≡ hopTexts n l ++ hopText (n + length l) x
+pub hop-texts-more :
+    (n : ℕ) (l : List Figures) (x : Figures) → hopTexts n (l ++ x ∷ []) ≡ hopTexts n l ++ hopText (n + length l) x
 unfolding hopTexts
 hop-texts-more n [] x = rw add-zero (append-nil (hopText n x))
 hop-texts-more n (y ∷ l) x =
@@ -147,19 +159,22 @@ hop-texts-more n (y ∷ l) x =
     ap (λ (t : List ℕ). hopText n y ++ t) (hop-texts-more (n + 1) l x ∙ ap (λ (m : ℕ). hopTexts (n + 1) l ++ hopText m x) next)
     ∙ sym (append-assoc (hopText n y) (hopTexts (n + 1) l) (hopText (n + suc (length l)) x))
 
--- a word and a space
+-- a word and a space: that of a hop,
 hop-word : bytes "hop " ≡ bytes "hop" ++ bytes " "
 unfolding bytes
 hop-word = refl
 
+-- of the route,
 route-word : bytes "route " ≡ bytes "route" ++ bytes " "
 unfolding bytes
 route-word = refl
 
+-- of a refusal,
 refused-word : bytes "refused " ≡ bytes "refused" ++ bytes " "
 unfolding bytes
 refused-word = refl
 
+-- and the one between its numbers
 at-word : bytes " at " ≡ bytes " at" ++ bytes " "
 unfolding bytes
 at-word = refl
@@ -167,7 +182,8 @@ at-word = refl
 -- each line is its word and its numbers' decimals, a space between: a hop's line,
 pub hop-text-is :
     (n : ℕ) (x : Figures)
-    → hopText n x ≡ bytes "hop " ++ digits 20 n ++ bytes " " ++ digits 20 (x .backlog) ++ bytes " " ++ digits 20 (x .delay) ++ bytes "\n"
+    → hopText n x
+    ≡ bytes "hop " ++ digits 20 n ++ bytes " " ++ digits 20 (x .backlog) ++ bytes " " ++ digits 20 (x .delay) ++ bytes "\n"
 unfolding hopText numbers
 hop-text-is n x = rw hop-word (simp (append-assoc, append-nil))
 
@@ -181,3 +197,73 @@ route-text-is x = rw route-word (simp (append-assoc, append-nil))
 pub refused-text-is : (c k : ℕ) → refusedText c k ≡ bytes "refused " ++ digits 20 c ++ bytes " at " ++ digits 20 k ++ bytes "\n"
 unfolding refusedText numbers
 refused-text-is c k = rw (refused-word, at-word) (simp (append-assoc, append-nil))
+
+-- ---- What the program prints.
+
+-- A route, whose lines stand for what they say and add up; or a refusal, by its number and the profile that is refused.
+pub data Printed (input output : List ℕ) : Type 0 where
+  a-route :
+      (hops : List Figures) (route : Figures) → output ≡ hopTexts 1 hops ++ routeText route → RouteOf input hops route
+      → RouteLine hops route → Printed input output
+  a-refusal : (r : Refusal) (k : ℕ) → output ≡ refusedText (number r) k → 1 ≤ k → k ≤ 34 → Printed input output
+
+-- so it is for every output
+pub route-prints : {input output : List ℕ} → Route input output → Printed input output
+unfolding text
+route-prints {input} {output} r = by-report (r .report) (r .reported) (r .output-is)
+  where
+    by-report : (report : Report) → Reported input report → output ≡ text report → Printed input output
+    by-report (passed hops route) h e = a-route hops route e (route-of h) (route-line h)
+    by-report (refusedAt why k) h e = a-refusal why k e (refused-where h .0) (refused-where h .1)
+
+-- ---- The output is bytes.
+
+-- Every number of the list is a byte of text: below 128.
+abbrev pub AllText : List ℕ → Type 0
+AllText [] = Unit {0}
+AllText (c ∷ l) = (c < 128) × AllText l
+
+-- two such lists together are one,
+text-append : (l r : List ℕ) → AllText l → AllText r → AllText (l ++ r)
+text-append [] r h k = k
+text-append (c ∷ l) r h k = (h .0, text-append l r (h .1) k)
+
+-- digits are such,
+digits-text : (l : List ℕ) → AllDigits l → AllText l
+digits-text [] h = tt
+digits-text (c ∷ l) h = (omega (arith, h .1), digits-text l (h .2))
+
+-- numbers are,
+numbers-text : (l : List ℕ) → AllText (numbers l)
+unfolding numbers bytes
+numbers-text [] = tt
+numbers-text (n ∷ l) =
+    (omega arith, text-append (digits 20 n) (numbers l) (digits-text (digits 20 n) (digits-each 20 n)) (numbers-text l))
+
+-- a word with numbers behind it is,
+line-text : (word l : List ℕ) → AllText word → AllText (word ++ numbers l ++ bytes "\n")
+unfolding bytes
+line-text word l h = text-append (word ++ numbers l) (bytes "\n") (text-append word (numbers l) h (numbers-text l)) (omega arith)
+
+-- and so are the lines,
+hops-text : (n : ℕ) (l : List Figures) → AllText (hopTexts n l)
+unfolding hopTexts hopText bytes
+hops-text n [] = tt
+hops-text n (x ∷ l) =
+    text-append (hopText n x) (hopTexts (n + 1) l)
+    (line-text (bytes "hop") (n ∷ x .backlog ∷ x .delay ∷ []) (omega arith)) (hops-text (n + 1) l)
+
+-- and every report's text,
+report-text : (report : Report) → AllText (text report)
+unfolding text routeText refusedText bytes
+report-text (passed hops x) =
+    text-append (hopTexts 1 hops) (routeText x) (hops-text 1 hops)
+    (line-text (bytes "route") (x .backlog ∷ x .delay ∷ []) (omega arith))
+report-text (refusedAt r k) =
+    line-text (bytes "refused" ++ numbers (number r ∷ []) ++ bytes " at") (k ∷ [])
+    (text-append (bytes "refused" ++ numbers (number r ∷ [])) (bytes " at")
+    (text-append (bytes "refused") (numbers (number r ∷ [])) (omega arith) (numbers-text (number r ∷ []))) (omega arith))
+
+-- so that every output is
+pub route-text : {input output : List ℕ} → Route input output → AllText output
+route-text r = subst AllText (sym (r .output-is)) (report-text (r .report))

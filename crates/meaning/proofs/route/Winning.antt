@@ -2,19 +2,21 @@
 -- decide. At a server the lines of reading come first, then those of the curve with the server, then those of joining and of the
 -- curve behind: in this order the first that holds has the smallest number of all.
 -- Assumes nothing.
-use mathlib.Core.Path.{_≡_, refl, sym, _∙_, subst}
-use mathlib.Core.Logic.{inl, inr, _≢_}
+use mathlib.Core.Path.{_≡_, refl, sym, _∙_, ap, subst}
+use mathlib.Core.Logic.{_⊎_, inl, inr, _≢_}
 use mathlib.Core.Option.{Option, none, some}
-use mathlib.Core.List.{List}
+use mathlib.Core.List.{List, []}
 use Prim.Native.Nat.{ℕ, _≤_}
 use native.Mathlib.Nat.{le-trans}
 use native.Mathlib.Omega.{arith}
 use lib.Dec.{lit≤}
+use lib.ListN.{length}
+use lib.Seq.{take-nil}
 use Rattle.meaning.specs.Curve.{Bucket, listOf}
 use Rattle.meaning.specs.Server.{Server, Behind}
 use Rattle.meaning.specs.Refusal.{Refusal, HEADER, LENGTH, PAD, RANGE, UNBOUNDED, LARGE, number, Lines, _when_, _or_, Wins, Clear, Verdict, accepted, rejected, TooLarge, curveLines}
 use Rattle.meaning.specs.ServerQuestions.{ServerInRange, portLines}
-use Rattle.meaning.specs.Profile.{curveKind, Profile, curve, server, kindIn, profileOf, profileLines, fileLines, serverIn}
+use Rattle.meaning.specs.Profile.{edition, curveKind, serverKind, Profile, curve, server, editionOf, kindIn, profileOf, bytesTaken, profileLines, fileLines, serverIn}
 use Rattle.meaning.specs.Route.{firstFile, IsCurve, IsServer, dueLines, joinLines, hopLines}
 use Rattle.meaning.proofs.outcome.Outcomes.{number-positive, From, from-when, from-or, UpTo, up-to-when, up-to-or, line-miss, clear-or, refused-then}
 use Rattle.meaning.proofs.outcome.Demands.{port-up-to}
@@ -25,22 +27,49 @@ use Rattle.meaning.proofs.route.EveryRoute.{join-up-to}
 
 -- ---- Where a profile is due.
 
-module _ (input : List ℕ) where
-  -- a curve where a server is due is 1,
-  pub curve-there : kindIn input ≡ curveKind → Verdict (dueLines IsServer input) 1
-  unfolding number
-  curve-there kind =
-      rejected HEADER
-      (record { holds = inl (refl, λ due. rw (held-curve input kind) at due); smallest = λ r h. number-positive r })
-      refl
+-- what is not due there is 1,
+pub not-due : (Due : Profile → Type 0) (input : List ℕ) → (Due (profileOf input) → ⊥) → Verdict (dueLines Due input) 1
+unfolding number
+not-due Due input other =
+    rejected HEADER (record { holds = inl (refl, other); smallest = λ r h. number-positive r }) refl
 
-  -- anything else where the curve is due is 1,
+-- and so is a header that is wrong,
+header-there :
+    (Due : Profile → Type 0) (input : List ℕ)
+    → (length (firstFile input) ≡ 0)
+    ⊎ (editionOf (firstFile input) ≢ edition)
+    ⊎ ((kindIn (firstFile input) ≢ curveKind) × (kindIn (firstFile input) ≢ serverKind))
+    → Verdict (dueLines Due input) 1
+unfolding number
+header-there Due input h =
+    rejected HEADER (record { holds = inr (inl (inl (inl (refl, h)))); smallest = λ r _. number-positive r }) refl
+
+-- nothing at all,
+pub nothing-there : (Due : Profile → Type 0) → Verdict (dueLines Due []) 1
+unfolding firstFile
+nothing-there Due = header-there Due [] (inl (ap length (take-nil (bytesTaken []))))
+
+-- another edition,
+pub other-edition-there : (Due : Profile → Type 0) (input : List ℕ) → editionOf input ≢ edition → Verdict (dueLines Due input) 1
+other-edition-there Due input other =
+    header-there Due input (inr (inl (λ e. other (sym (same-start input .edition-same) ∙ e))))
+
+-- another kind,
+pub other-kind-there :
+    (Due : Profile → Type 0) (input : List ℕ) → kindIn input ≢ curveKind → kindIn input ≢ serverKind
+    → Verdict (dueLines Due input) 1
+other-kind-there Due input no-curve no-server =
+    header-there Due input
+    (inr (inr (λ e. no-curve (sym (same-start input .kind-same) ∙ e), λ e. no-server (sym (same-start input .kind-same) ∙ e))))
+
+module _ (input : List ℕ) where
+  -- a curve where a server is due,
+  pub curve-there : kindIn input ≡ curveKind → Verdict (dueLines IsServer input) 1
+  curve-there kind = not-due IsServer input (λ due. rw (held-curve input kind) at due)
+
+  -- anything else where the curve is due;
   pub no-curve-there : kindIn input ≢ curveKind → Verdict (dueLines IsCurve input) 1
-  unfolding number
-  no-curve-there kind =
-      rejected HEADER
-      (record { holds = inl (refl, λ due. rw (held-server input kind) at due); smallest = λ r h. number-positive r })
-      refl
+  no-curve-there kind = not-due IsCurve input (λ due. rw (held-server input kind) at due)
 
   module _ {code : ℕ} (v : Verdict (fileLines (firstFile input)) code) where
     -- and otherwise the lines of the file decide: of a server's,
@@ -85,7 +114,8 @@ due-low input {r} w = by-profile (profileOf input) refl
     by-profile (server s) e =
         up-to-or (up-to-when HEADER (lit≤ tt))
         (up-to-or (up-to-or (up-to-or (up-to-when HEADER (lit≤ tt)) (up-to-when LENGTH (lit≤ tt))) (up-to-when PAD (lit≤ tt)))
-        (subst (λ (p : Profile). UpTo 6 (profileLines p)) (sym (same-start input .profile-same ∙ e)) (up-to-when RANGE (lit≤ tt))))
+        (subst (λ (p : Profile). UpTo 6 (profileLines p)) (sym (same-start input .profile-same ∙ e))
+        (up-to-when RANGE (lit≤ tt))))
         r (w .holds)
 
 -- ---- At a server.
@@ -120,7 +150,8 @@ module _ (f : List Bucket) (joined : Option Server) (rest : List ℕ) where
   module _ (read : Clear (dueLines IsServer rest)) where
     -- the lines of the curve with it come next,
     pub port-decides :
-        {code : ℕ} → JoinedInRange joined → Verdict (portLines (listOf f) s) code → code ≢ 0 → Verdict (hopLines f joined rest) code
+        {code : ℕ} → JoinedInRange joined → Verdict (portLines (listOf f) s) code → code ≢ 0
+        → Verdict (hopLines f joined rest) code
     unfolding number
     port-decides before (accepted clear e) nonzero = absurd (nonzero e)
     port-decides before (rejected r w e) nonzero =
@@ -133,7 +164,8 @@ module _ (f : List Bucket) (joined : Option Server) (rest : List ℕ) where
 
     -- then those of joining it with those before it,
     pub join-decides :
-        {code : ℕ} → Clear (portLines (listOf f) s) → Verdict (joinLines joined s) code → code ≢ 0 → Verdict (hopLines f joined rest) code
+        {code : ℕ} → Clear (portLines (listOf f) s) → Verdict (joinLines joined s) code → code ≢ 0
+        → Verdict (hopLines f joined rest) code
     unfolding number
     join-decides port (accepted clear e) nonzero = absurd (nonzero e)
     join-decides port (rejected r w e) nonzero =
@@ -156,5 +188,6 @@ module _ (f : List Bucket) (joined : Option Server) (rest : List ℕ) where
         smallest : From (number r) (hopLines f joined rest)
         smallest =
             from-or
-            (from-or (from-or (λ line h. absurd (read line h)) (λ line h. w .smallest line (inl h))) (λ line h. absurd (joins line h)))
+            (from-or (from-or (λ line h. absurd (read line h)) (λ line h. w .smallest line (inl h)))
+            (λ line h. absurd (joins line h)))
             (λ line h. w .smallest line (inr h))

@@ -1,5 +1,5 @@
--- A route of profiles that are written one after the other: the way starts behind the curve's file, and goes on behind the file of
--- each server that the curve from the hop before passes.
+-- A route of profiles that are written one after the other: the way starts behind the curve's file, and goes on behind the file
+-- of each server that the curve from the hop before passes.
 -- Assumes nothing.
 use mathlib.Core.Path.{_≡_, refl, ap, subst}
 use mathlib.Core.Option.{Option, none, some}
@@ -60,11 +60,14 @@ worked {f} s c slow some-rate =
     (behind-is f s (c .form) slow, backlog-is f s (c .form) slow, delay-is s (c .form) slow some-rate)
 
 -- a server joins those before it in range
-pub join-clear : {before s : Server} → ServerInRange before → ServerInRange s → ServerInRange (join before s) → Clear (joinLines (some before) s)
+pub join-clear :
+    {before s : Server} → ServerInRange before → ServerInRange s → ServerInRange (join before s)
+    → Clear (joinLines (some before) s)
 join-clear {before} {s} hb hs hj = clear-or (clear-or (λ r h. h .1 hb) (λ r h. h .1 hs)) (λ r h. h .1 .2 (rw (h .1 .1) hj))
 
 -- a curve passes a server in range that is no slower than its last bucket
-pub port-clear : {f : List Bucket} {s : Server} → Sound f → ServerInRange s → last f .rate ≤ s .rate → Clear (portLines (listOf f) s)
+pub port-clear :
+    {f : List Bucket} {s : Server} → Sound f → ServerInRange s → last f .rate ≤ s .rate → Clear (portLines (listOf f) s)
 port-clear {f} c ranged slow =
     clear-or (clear-or (sound-lines c) (λ r h. h .1 ranged)) (λ r h. omega (arith, rw (curve-list f) at (h .1)))
 
