@@ -96,6 +96,14 @@ at-inside [] i k h = absurd (omega arith)
 at-inside (j ∷ f) zero k h = List·Memᴰ·head refl
 at-inside (j ∷ f) (suc i) k h = List·Memᴰ·tail (at-inside f i k (omega arith))
 
+-- and each bucket of a list stands at a position
+pub inside-at : (f : List Bucket) {j : Bucket} (k : Bucket) → j ∈ f → (i : ℕ) × (i < length f) × (j ≡ getD f i k)
+inside-at (j ∷ f) k m =
+    elim (List·Memᴰ·cases-cons m) [
+      | inl e ↦ (0, omega arith, e)
+      | inr n ↦ let at = inside-at f k n in (suc (at .0), omega (arith, at .1), at .2)
+    ]
+
 -- where rates fall strictly, the bucket at a later position has the lower rate
 pub falling-at :
     (f : List Bucket) → Falling f → (k : Bucket) (i j : ℕ) → i < j → j < length f → getD f j k .rate < getD f i k .rate

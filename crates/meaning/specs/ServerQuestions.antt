@@ -1,10 +1,11 @@
 -- The operations over servers, each as a question over the lent numbers.
 -- Assumes nothing.
 use mathlib.Core.Path.{_≡_}
+use mathlib.Core.Logic.{_≢_}
 use mathlib.Core.List.{List, []}
 use Prim.Native.Nat.{ℕ, _^_, _≤_, _<_}
 use Rattle.meaning.specs.Curve.{curveOf}
-use Rattle.meaning.specs.Refusal.{RANGE, UNBOUNDED, LARGE, Lines, _when_, _or_, Clear, Refused, curveLines, Question, FigureOutcome}
+use Rattle.meaning.specs.Refusal.{RANGE, UNBOUNDED, LARGE, Lines, _when_, _or_, Clear, Refused, curveLines, Question, Outcome, PartOutcome, FigureOutcome}
 use Rattle.meaning.specs.Server.{Server, noServer, join, Behind, Backlog, Delay, Residual, last}
 
 -- A server's ranges: some rate, below 2^20, and a latency below 2^20.
@@ -32,6 +33,30 @@ BacklogOutcome f s = FigureOutcome (portLines f s) (Backlog (curveOf f) s)
 -- delay of a curve and a server.
 unfoldable pub DelayOutcome : List ℕ → Server → ℕ → ℕ → Type 0
 DelayOutcome f s = FigureOutcome (portLines f s) (Delay (curveOf f) s)
+
+-- What a hop of a route reports beside its curve: where the code is 0, backlog and delay there and the server passed; no figures
+-- and no server where it is not.
+pub record HopFigures (f : List ℕ) (s : Server) (code backlog delay : ℕ) (through : Server) : Type 0 where
+  pub backlog-is : code ≡ 0 → Backlog (curveOf f) s backlog
+  pub delay-is : code ≡ 0 → Delay (curveOf f) s delay
+  pub server-is : code ≡ 0 → through ≡ s
+  pub no-backlog : code ≢ 0 → backlog ≡ 0
+  pub no-delay : code ≢ 0 → delay ≡ 0
+  pub no-server : code ≢ 0 → through ≡ noServer
+
+-- A hop: behind, backlog and delay asked together. It is refused whole: its code is behind's, so a curve behind that is LARGE, or
+-- for which there is no ROOM, leaves no figures either.
+pub record HopOutcome (f : List ℕ) (s : Server) (before after : List ℕ) (code count backlog delay : ℕ) (through : Server) : Type 0 where
+  pub curve : Outcome (passing f s) before after code count
+  pub figures : HopFigures f s code backlog delay through
+
+-- The same with a part of a larger table for the output list.
+pub record HopPartOutcome
+    (f : List ℕ) (s : Server) (at room : ℕ) (before after : List ℕ) (code count backlog delay : ℕ) (through : Server)
+    : Type 0
+  where
+    pub curve : PartOutcome (passing f s) at room before after code count
+    pub figures : HopFigures f s code backlog delay through
 
 -- The lines of a question that a server answers: LARGE where the exact answer is out of range.
 abbrev pub withLarge : Lines → (Server → Type 0) → Lines

@@ -1,5 +1,9 @@
 -- The laws that the proofs of this crate's functions cite.
-pub mod Least
+pub mod Walking
+pub mod Valuing
+pub mod Turning
+pub mod Refusing
+pub mod Bounding
 pub mod Merging
 pub mod Adding
 pub mod Pairing

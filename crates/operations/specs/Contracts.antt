@@ -3,15 +3,50 @@
 use mathlib.Core.Path.{_≡_}
 use mathlib.Core.Bool.{Bool, true, false, cond}
 use mathlib.Core.List.{List, [], _∷_}
-use Prim.Native.Nat.{ℕ, _≤_}
+use Prim.Native.Nat.{ℕ, _-_, _/_, _≤_, _<_}
 use lib.Dec.{leb, ltb}
 use lib.ListN.{length, drop}
-use Rattle.meaning.specs.Curve.{Bucket}
+use Rattle.meaning.specs.Curve.{Bucket, bucketAt, NormalForm}
+use Rattle.meaning.specs.Refusal.{AllInRange}
+use Rattle.meaning.specs.Server.{last}
+use Rattle.meaning.specs.ServerQuestions.{ServerInRange}
+use Rattle.checks.specs.Contracts.{nth}
+use Rattle.servers.specs.Contracts.{port}
 use Rattle.operations.specs.declared.gather.Next.{Next}
 
 -- The bucket of two numbers.
 abbrev pub bucket : ℕ → ℕ → Bucket
 bucket rate burst = record { rate = rate; burst = burst }
+
+-- A curve that no line refuses.
+pub record Tested (f : List Bucket) : Type 0 where
+  pub form : NormalForm f
+  pub ranged : AllInRange f
+  pub few : length f ≤ 64
+
+-- Such a curve at a server (rate, latency), which no line refuses either.
+pub record TestedPort (f : List Bucket) (rate latency : ℕ) : Type 0 where
+  pub curve : Tested f
+  pub bounded : last f .rate ≤ rate
+  pub server : ServerInRange (port rate latency)
+
+-- The least value at a tick of the buckets numbered, from 0, `from` and on and before `end`.
+pub record LeastOf (f : List Bucket) (t from end least : ℕ) : Type 0 where
+  pub at : ℕ
+  pub from-on : from ≤ at
+  pub before-end : at < end
+  pub reached : least ≡ bucketAt (nth f at) t 1
+  pub smallest : (k : ℕ) → from ≤ k → k < end → least ≤ bucketAt (nth f k) t 1
+
+-- The number, from 0, of the first bucket of rate at most R: those before it are steeper.
+pub record FirstSlow (f : List Bucket) (rate first : ℕ) : Type 0 where
+  pub inside : first < length f
+  pub steeper : (k : ℕ) → k < first → rate < nth f k .rate
+  pub slow : nth f first .rate ≤ rate
+
+-- The whole tick up to the crossing of the bucket numbered k, from 0, with the one before it.
+unfoldable pub tickOf : List Bucket → ℕ → ℕ
+tickOf f k = (nth f k .burst - nth f (k - 1) .burst) / (nth f (k - 1) .rate - nth f k .rate)
 
 -- By falling rates, and among those of one rate by rising bursts, the first comes no later than the second.
 unfoldable pub comesFirst : Bucket → Bucket → Bool

@@ -16,10 +16,7 @@ use Rattle.meaning.proofs.outcome.Stable.{server-stable}
 use Rattle.meaning.proofs.outcome.Outcomes.{up-to-or, clear-or, line-hit, line-miss, verdict-or, refused-then, refusal}
 use Rattle.meaning.proofs.outcome.Demands.{server-up-to, server-refused}
 use Rattle.checks.proofs.Checks.{passed, clear-first, clear-second}
-
--- The server of two numbers.
-abbrev pub port : ℕ → ℕ → Server
-port rate latency = record { rate = rate; latency = latency }
+use Rattle.servers.specs.Contracts.{port}
 
 -- ---- The test of a server.
 

@@ -6,9 +6,13 @@ use Rattle.meaning.specs.Server.{Server, noServer}
 use Rattle.servers.specs.declared.Server as held-server
 use Rattle.servers.specs.declared.ServerAnswer.{ServerAnswer}
 
+-- The server of two numbers.
+abbrev pub port : ℕ → ℕ → Server
+port rate latency = record { rate = rate; latency = latency }
+
 -- The server that code holds.
 abbrev pub serverOf : held-server.Server → Server
-serverOf s = record { rate = s .rate; latency = s .latency }
+serverOf s = port (s .rate) (s .latency)
 
 -- A refusal with its number: no server.
 pub record Refusing (code : ℕ) (answer : ServerAnswer) : Type 0 where

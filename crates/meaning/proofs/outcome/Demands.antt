@@ -5,16 +5,17 @@
 -- two added. A last rate above the server's is 8.
 -- Assumes nothing.
 use mathlib.Core.Path.{_≡_, refl, sym, _∙_, ap}
-use mathlib.Core.Logic.{inl, inr}
+use mathlib.Core.Logic.{inl, inr, _≢_}
 use mathlib.Core.List.{List, []}
 use Prim.Native.Nat.{ℕ, _+_, _-_, _*_, _≤_, _<_}
+use native.Mathlib.Decide.{ℕ-discrete}
 use native.Mathlib.Omega.{arith}
 use lib.ListN.{length}
 use lib.Dec.{lit≤}
 use Rattle.meaning.specs.Curve.{curveOf, listOf, NormalForm, reads}
-use Rattle.meaning.specs.Server.{Server, served, GreatestGap, join, Behind, Delay, Residual, last}
+use Rattle.meaning.specs.Server.{Server, noServer, served, GreatestGap, join, Behind, Backlog, Delay, Residual, last}
 use Rattle.meaning.specs.Refusal.{RANGE, UNBOUNDED, LARGE, number, Lines, _when_, _or_, Clear, Verdict, accepted, curveLines, over, Outcome, part, PartOutcome, FigureOutcome}
-use Rattle.meaning.specs.ServerQuestions.{ServerInRange, serverLines, portLines, passing, BacklogOutcome, DelayOutcome, ServerOutcome, JoinOutcome, ResidualOutcome}
+use Rattle.meaning.specs.ServerQuestions.{ServerInRange, serverLines, portLines, passing, BacklogOutcome, DelayOutcome, HopFigures, HopOutcome, HopPartOutcome, ServerOutcome, JoinOutcome, ResidualOutcome}
 use Rattle.meaning.proofs.Order.{not-above}
 use Rattle.meaning.proofs.outcome.Stable.{server-stable}
 use Rattle.meaning.proofs.server.Excess.{gap-unique, excess-bounded}
@@ -74,6 +75,84 @@ module _ (f : List ℕ) (s : Server) where
       → (code ≡ code′) × (left ≡ left′)
   unfolding ResidualOutcome
   one-residual = one-server (λ x y. residual-unique)
+
+-- What a hop leaves to be seen is the same.
+pub record SameHop
+    (code count backlog delay : ℕ) (through : Server) (code′ count′ backlog′ delay′ : ℕ) (through′ : Server) (after after′ : List ℕ)
+    : Type 0
+  where
+    pub same : Same code count code′ count′ after after′
+    pub backlog-same : backlog ≡ backlog′
+    pub delay-same : delay ≡ delay′
+    pub server-same : through ≡ through′
+
+module _ (f : List ℕ) (s : Server) where
+  -- a hop that is refused reports nothing,
+  pub hop-refused : {code : ℕ} → code ≢ 0 → HopFigures f s code 0 0 noServer
+  hop-refused some =
+      record {
+        backlog-is = λ e. absurd (some e);
+        delay-is = λ e. absurd (some e);
+        server-is = λ e. absurd (some e);
+        no-backlog = λ n. refl;
+        no-delay = λ n. refl;
+        no-server = λ n. refl;
+      }
+
+  -- and one that is answered its figures and its server
+  pub hop-answered :
+      {code backlog delay : ℕ} → code ≡ 0 → Backlog (curveOf f) s backlog → Delay (curveOf f) s delay
+      → HopFigures f s code backlog delay s
+  hop-answered e b d =
+      record {
+        backlog-is = λ _. b;
+        delay-is = λ _. d;
+        server-is = λ _. refl;
+        no-backlog = λ n. absurd (n e);
+        no-delay = λ n. absurd (n e);
+        no-server = λ n. absurd (n e);
+      }
+
+  -- The figures of a hop are fixed by its code,
+  one-report :
+      {code backlog delay backlog′ delay′ : ℕ} {through through′ : Server}
+      → HopFigures f s code backlog delay through → HopFigures f s code backlog′ delay′ through′
+      → (backlog ≡ backlog′) × (delay ≡ delay′) × (through ≡ through′)
+  one-report {code} x y =
+      elim (ℕ-discrete code 0) [
+        | yes e ↦ (
+          gap-unique (x .backlog-is e) (y .backlog-is e),
+          smallest-unique (x .delay-is e) (y .delay-is e),
+          x .server-is e ∙ sym (y .server-is e),
+        )
+        | no n ↦ (
+          x .no-backlog n ∙ sym (y .no-backlog n),
+          x .no-delay n ∙ sym (y .no-delay n),
+          x .no-server n ∙ sym (y .no-server n),
+        )
+      ]
+
+  -- so a hop has one outcome, over a list
+  pub one-hop :
+      {before after after′ : List ℕ} {code count backlog delay code′ count′ backlog′ delay′ : ℕ} {through through′ : Server}
+      → HopOutcome f s before after code count backlog delay through
+      → HopOutcome f s before after′ code′ count′ backlog′ delay′ through′
+      → SameHop code count backlog delay through code′ count′ backlog′ delay′ through′ after after′
+  one-hop x y =
+      let same = one-behind f s .of-list (x .curve) (y .curve) in
+      let report = one-report (rw (same .code-same) at (x .figures)) (y .figures) in
+      record { same = same; backlog-same = report .0; delay-same = report .1; server-same = report .2 }
+
+  -- and over a part of a table
+  pub one-hop-in-part :
+      {at room : ℕ} {before after after′ : List ℕ} {code count backlog delay code′ count′ backlog′ delay′ : ℕ}
+      {through through′ : Server} → HopPartOutcome f s at room before after code count backlog delay through
+      → HopPartOutcome f s at room before after′ code′ count′ backlog′ delay′ through′
+      → SameHop code count backlog delay through code′ count′ backlog′ delay′ through′ after after′
+  one-hop-in-part x y =
+      let same = one-behind f s .of-part (x .curve) (y .curve) in
+      let report = one-report (rw (same .code-same) at (x .figures)) (y .figures) in
+      record { same = same; backlog-same = report .0; delay-same = report .1; server-same = report .2 }
 
 -- ---- What is known of operands that no line refuses.
 

@@ -15,7 +15,7 @@ use Rattle.meaning.specs.Curve.{Bucket, buckets, width, curveOf, listOf,
 use Rattle.meaning.specs.Server.{Server, noServer, join, last}
 use Rattle.meaning.specs.CurveQuestions.{normalising, lowering, summing, shaping, ValueOutcome}
 use Rattle.meaning.specs.Refusal.{Refusal, LIST, COUNT, RANGE, FORM, UNBOUNDED, LARGE, number, Lines, _when_, _or_, Clear, Verdict, accepted, rejected, TooLarge, listLines, curveLines, Question, Outcome, part, PartOutcome, FigureOutcome, BytesQuestion, BytesOutcome}
-use Rattle.meaning.specs.ServerQuestions.{ServerInRange, serverLines, portLines, passing, BacklogOutcome, DelayOutcome, ServerOutcome, JoinOutcome, ResidualOutcome}
+use Rattle.meaning.specs.ServerQuestions.{ServerInRange, serverLines, portLines, passing, BacklogOutcome, DelayOutcome, HopFigures, HopOutcome, HopPartOutcome, ServerOutcome, JoinOutcome, ResidualOutcome}
 use Rattle.meaning.specs.Computed.{earlier, normal, behind, backlog, delay, residual}
 use Rattle.meaning.proofs.Order.{le-or-lt, not-above}
 use Rattle.meaning.proofs.curve.Unique.{normal-of-unique}
@@ -26,7 +26,7 @@ use Rattle.meaning.proofs.server.Behind.{behind-is, backlog-is}
 use Rattle.meaning.proofs.server.Delay.{delay-is}
 use Rattle.meaning.proofs.server.Joining.{residual-is, residual-unique}
 use Rattle.meaning.proofs.outcome.Answers.{raw-some, both-form, list-up-to, curve-up-to, in-part}
-use Rattle.meaning.proofs.outcome.Demands.{port-form, port-server, port-bounded, single-behind, server-up-to, port-up-to, server-refused}
+use Rattle.meaning.proofs.outcome.Demands.{hop-refused, hop-answered, port-form, port-server, port-bounded, single-behind, server-up-to, port-up-to, server-refused}
 use Rattle.meaning.proofs.outcome.Outcomes.{number-positive, Single, UpTo, up-to-or, up-to-when, line-hit, line-miss, clear-or, refused-then, verdict-or, refusal, refuse, too-large, no-room, written-out}
 use Rattle.meaning.proofs.outcome.Bytes.{refuse-bytes, no-room-bytes, filled-bytes}
 
@@ -110,6 +110,33 @@ pub record HasServer (ServerOf : ℕ → Server → Type 0) : Type 0 where
   pub code : ℕ
   pub server : Server
   pub outcome : ServerOf code server
+
+-- There is what a hop with this code reports.
+record HasReport (f : List ℕ) (s : Server) (code : ℕ) : Type 0 where
+  backlog : ℕ
+  delay : ℕ
+  through : Server
+  figures : HopFigures f s code backlog delay through
+
+-- There is an outcome of a hop, over this lent list.
+pub record HasHop (f : List ℕ) (s : Server) (before : List ℕ) : Type 0 where
+  pub after : List ℕ
+  pub code : ℕ
+  pub count : ℕ
+  pub backlog : ℕ
+  pub delay : ℕ
+  pub through : Server
+  pub outcome : HopOutcome f s before after code count backlog delay through
+
+-- There is one, over this part of a table.
+pub record HasHopPart (f : List ℕ) (s : Server) (at room : ℕ) (before : List ℕ) : Type 0 where
+  pub after : List ℕ
+  pub code : ℕ
+  pub count : ℕ
+  pub backlog : ℕ
+  pub delay : ℕ
+  pub through : Server
+  pub outcome : HopPartOutcome f s at room before after code count backlog delay through
 
 -- There is an outcome, over this lent buffer.
 pub record HasBytes (ask : BytesQuestion) (before : List ℕ) : Type 0 where
@@ -289,6 +316,57 @@ module _ (f : List ℕ) (s : Server) where
   delay-has-outcome =
       figure-outcome (port-decided f s bounded)
       (λ clear. (delay (curveOf f) s, delay-is s (port-form f s clear) (last-bounded clear) (port-server f s clear .rate-some)))
+
+  -- so a hop has what it reports, whatever the code of behind,
+  hop-report : {before after : List ℕ} {code count : ℕ} → Outcome (passing f s) before after code count → HasReport f s code
+  unfolding passing
+  hop-report (Outcome.refused v) =
+      record {
+        backlog = 0;
+        delay = 0;
+        through = noServer;
+        figures = hop-refused f s (omega (arith, v .code-is, number-positive (v .why)));
+      }
+  hop-report (Outcome.answered v) =
+      let clear : Clear (portLines f s) = λ r h. v .clear r (inl h) in
+      record {
+        backlog = backlog (curveOf f) s;
+        delay = delay (curveOf f) s;
+        through = s;
+        figures =
+            hop-answered f s (v .code-is) (backlog-is (curveOf f) s (port-form f s clear) (last-bounded clear))
+            (delay-is s (port-form f s clear) (last-bounded clear) (port-server f s clear .rate-some));
+      }
+
+  -- and an outcome over every lent list
+  pub hop-has-outcome : (before : List ℕ) → HasHop f s before
+  hop-has-outcome before =
+      let o = behind-has-outcome before in
+      let report = hop-report (o .outcome) in
+      record {
+        after = _;
+        code = o .code;
+        count = o .count;
+        backlog = _;
+        delay = _;
+        through = _;
+        outcome = record { curve = o .outcome; figures = report .figures };
+      }
+
+  -- and over every part of a table;
+  pub hop-has-part : (at room : ℕ) (before : List ℕ) → HasHopPart f s at room before
+  hop-has-part at room before =
+      let o = behind-has-outcome (part at room before) in
+      let report = hop-report (o .outcome) in
+      record {
+        after = _;
+        code = o .code;
+        count = o .count;
+        backlog = _;
+        delay = _;
+        through = _;
+        outcome = record { curve = in-part (o .outcome); figures = report .figures };
+      }
 
   -- residual has one,
   pub residual-has-outcome : HasServer (ResidualOutcome f s)

@@ -97,7 +97,7 @@ below-other :
 below-other u m other = u .below _ m (λ e. other (same-rate e))
 
 -- a useful bucket is lower at 0 than a flatter one
-burst-below : {f : List Bucket} {k j : Bucket} → Useful f k → j ∈ f → j .rate < k .rate → k .burst < j .burst
+pub burst-below : {f : List Bucket} {k j : Bucket} → Useful f k → j ∈ f → j .rate < k .rate → k .burst < j .burst
 burst-below {k = k} {j} u m h = below-rises k j (u .p) (u .q) (le-of-lt h) (below-other u m (omega arith))
 
 -- A useful bucket between a steeper and a flatter one:
@@ -114,12 +114,12 @@ module _
     late h = later-below k steep _ _ x (below-other u has (omega arith)) (le-of-lt over) (le-of-lt h)
 
     -- so while the steeper is not above it, it is below the flatter,
-    below-flat : bucketAt steep x 1 ≤ bucketAt k x 1 → bucketAt k x 1 < bucketAt flat x 1
+    pub below-flat : bucketAt steep x 1 ≤ bucketAt k x 1 → bucketAt k x 1 < bucketAt flat x 1
     below-flat h =
         elim (le-or-lt (x * u .q) (u .p)) [ inl before ↦ early before | inr after ↦ absurd (omega (arith, late after)) ]
 
     -- and once the flatter is not above it, it is below the steeper
-    below-steep : bucketAt flat x 1 ≤ bucketAt k x 1 → bucketAt k x 1 < bucketAt steep x 1
+    pub below-steep : bucketAt flat x 1 ≤ bucketAt k x 1 → bucketAt k x 1 < bucketAt steep x 1
     below-steep h =
         elim (le-or-lt (x * u .q) (u .p)) [ inl before ↦ absurd (omega (arith, early before)) | inr after ↦ late after ]
 
@@ -154,23 +154,23 @@ place (k ∷ passed) rest {before} h =
     cons-each (is-steeper (h .0 before (Memᴰ·append-right passed (List·Memᴰ·head refl)))) (place passed rest (h .1))
 
 -- The first bucket of rate at most R and the one before it, where it is not the first of the list.
-record Turn (f : List Bucket) (rate : ℕ) : Type 0 where
-  passed : List Bucket
-  before : Bucket
-  first : Bucket
-  rest : List Bucket
-  whole : f ≡ passed ++ before ∷ first ∷ rest
-  steeper : (j : Bucket) → j ∈ (passed ++ before ∷ []) → rate < j .rate
-  flat : first .rate ≤ rate
+pub record Turn (f : List Bucket) (rate : ℕ) : Type 0 where
+  pub passed : List Bucket
+  pub before : Bucket
+  pub first : Bucket
+  pub rest : List Bucket
+  pub whole : f ≡ passed ++ before ∷ first ∷ rest
+  pub steeper : (j : Bucket) → j ∈ (passed ++ before ∷ []) → rate < j .rate
+  pub flat : first .rate ≤ rate
 
 -- Their crossing is at rise/fall, and the whole tick up to it is their quotient.
-abbrev rise : {f : List Bucket} {rate : ℕ} → Turn f rate → ℕ
+abbrev pub rise : {f : List Bucket} {rate : ℕ} → Turn f rate → ℕ
 rise w = w .first .burst - w .before .burst
 
-abbrev fall : {f : List Bucket} {rate : ℕ} → Turn f rate → ℕ
+abbrev pub fall : {f : List Bucket} {rate : ℕ} → Turn f rate → ℕ
 fall w = w .before .rate - w .first .rate
 
-abbrev tick : {f : List Bucket} {rate : ℕ} → Turn f rate → ℕ
+abbrev pub tick : {f : List Bucket} {rate : ℕ} → Turn f rate → ℕ
 tick w = rise w / fall w
 
 -- In normal form:
@@ -178,24 +178,24 @@ module _ {f : List Bucket} {rate : ℕ} (n : NormalForm f) (w : Turn f rate) whe
   before-steep : rate < w .before .rate
   before-steep = w .steeper (w .before) (Memᴰ·append-right (w .passed) (List·Memᴰ·head refl))
 
-  before-inside : w .before ∈ f
+  pub before-inside : w .before ∈ f
   before-inside = rw (w .whole) (Memᴰ·append-right (w .passed) (List·Memᴰ·head refl))
 
-  first-inside : w .first ∈ f
+  pub first-inside : w .first ∈ f
   first-inside = rw (w .whole) (Memᴰ·append-right (w .passed) (List·Memᴰ·tail (List·Memᴰ·head refl)))
 
   placed : {j : Bucket} → j ∈ f → Place (w .before) (w .first) j
   placed {j} m = place (w .passed) (w .rest) (rw (w .whole) at (n .falling)) j (rw (w .whole) at m)
 
-  turns : w .first .rate < w .before .rate
+  pub turns : w .first .rate < w .before .rate
   turns = omega (arith, before-steep, w .flat)
 
   -- the one before is the lower at 0, so they meet at the crossing
-  crosses : Meet (w .before) (w .first) (rise w) (fall w)
+  pub crosses : Meet (w .before) (w .first) (rise w) (fall w)
   crosses = meet _ _ (le-of-lt turns) (le-of-lt (burst-below (n .useful _ before-inside) first-inside turns))
 
   -- at the whole tick up to the crossing the one before is not above a bucket of rate at most R
-  before-lowest : (j : Bucket) → j ∈ f → j .rate ≤ rate → bucketAt (w .before) (tick w) 1 ≤ bucketAt j (tick w) 1
+  pub before-lowest : (j : Bucket) → j ∈ f → j .rate ≤ rate → bucketAt (w .before) (tick w) 1 ≤ bucketAt j (tick w) 1
   before-lowest j m slow =
       elim (placed m) [
         | is-steeper h ↦ absurd (omega (arith, before-steep))
@@ -209,7 +209,7 @@ module _ {f : List Bucket} {rate : ℕ} (n : NormalForm f) (w : Turn f rate) whe
       ahead = not-above (λ h. omega (arith, after-if-below crosses (tick w) 1 h, div-mul-le-self (rise w) (fall w)))
 
   -- at the tick after it the first is not above a bucket of rate above R
-  first-lowest : (j : Bucket) → j ∈ f → rate < j .rate → bucketAt (w .first) (tick w + 1) 1 ≤ bucketAt j (tick w + 1) 1
+  pub first-lowest : (j : Bucket) → j ∈ f → rate < j .rate → bucketAt (w .first) (tick w + 1) 1 ≤ bucketAt j (tick w + 1) 1
   first-lowest j m fast =
       elim (placed m) [
         | is-steeper h ↦
@@ -241,7 +241,7 @@ module _ {f : List Bucket} {rate : ℕ} (n : NormalForm f) (w : Turn f rate) whe
   turn-reached : AtOrAfter f rate (excessAt f rate (tick w)) (tick w)
   turn-reached = turning-reached (steep-there .0) (flat-next .0) (steep-there .1) (flat-next .1)
 
-  turn-excess : Excess f rate (excessAt f rate (tick w))
+  pub turn-excess : Excess f rate (excessAt f rate (tick w))
   turn-excess = turning (steep-there .0) (flat-next .0) (steep-there .1) (flat-next .1)
 
 -- the search for the first bucket of rate at most R, past some that are above R, ends at one
@@ -285,7 +285,7 @@ module _ {k : Bucket} {g : List Bucket} {rate : ℕ} (n : NormalForm (k ∷ g)) 
   unfolding reads bucketAt first-has
   start-value = omega (arith, first-has .value-is)
 
-  starting-excess : Excess (k ∷ g) rate (k .burst)
+  pub starting-excess : Excess (k ∷ g) rate (k .burst)
   unfolding first-has
   starting-excess =
       record {

@@ -5,7 +5,7 @@ use Prim.Native.Nat.{ℕ, _+_, _-_, _*_, _^_, _≤_, _<_}
 use native.Mathlib.Nat.{mul-le-mul, mul-le-mul-left, mul-le-mul-right}
 use native.Mathlib.Omega.{arith}
 use Rattle.meaning.specs.Curve.{Bucket, _∈_, bucketAt, reads}
-use Rattle.meaning.specs.Server.{RateLatency, served, Backlog, Delay}
+use Rattle.meaning.specs.Server.{RateLatency, served, Excess, Backlog, Delay}
 use Rattle.meaning.specs.Refusal.{InRange}
 use Rattle.meaning.specs.ServerQuestions.{ServerInRange}
 use Rattle.meaning.proofs.curve.Value.{value-least}
@@ -16,6 +16,12 @@ pub value-fits : (f : List Bucket) {k : Bucket} (t : ℕ) → k ∈ f → InRang
 unfolding bucketAt reads
 value-fits f {k} t inside ranged early =
     omega (arith, value-least f t 1 inside, ranged .rate-fits, ranged .burst-fits, mul-le-mul {n₁ = k .rate} {m₁ = t} {n₂ = 2 ^ 20} {m₂ = 2 ^ 40} (omega (arith, ranged .rate-fits)) (omega arith))
+
+-- the greatest of value(s) - R·s is at most the burst of any bucket of rate at most R
+pub excess-bound : (f : List Bucket) {rate m : ℕ} {k : Bucket} → k ∈ f → k .rate ≤ rate → Excess f rate m → m ≤ k .burst
+unfolding reads bucketAt
+excess-bound f inside slow e =
+    omega (arith, e .reached, value-least f (e .at) 1 inside, mul-le-mul-right (e .at) slow)
 
 -- A bucket of the curve that is no faster than the server bounds both figures.
 module _ (f : List Bucket) (s : RateLatency) {k : Bucket} (inside : k ∈ f) (slow : k .rate ≤ s .rate) (some : 1 ≤ s .rate) where
