@@ -4,3 +4,6 @@ pub mod Header
 pub mod Framing
 pub mod Decoding
 pub mod Readings
+pub mod Putting
+pub mod Packs
+pub mod Handing

@@ -16,7 +16,7 @@ use Rattle.meaning.proofs.profile.Fields.{field-fits}
 use Rattle.profiles.specs.Contracts.{InFile, Widened}
 
 -- bits before bits
-spelt-append : (l r : List ℕ) → spelt (l ++ r) ≡ spelt l * 2 ^ length r + spelt r
+pub spelt-append : (l r : List ℕ) → spelt (l ++ r) ≡ spelt l * 2 ^ length r + spelt r
 unfolding spelt
 spelt-append [] r = omega arith
 spelt-append (b ∷ l) r =

@@ -2,13 +2,14 @@
 -- Assumes nothing.
 use mathlib.Core.Path.{_≡_}
 use mathlib.Core.Logic.{_⊎_, _≢_}
-use mathlib.Core.List.{List, List·Memᴰ}
-use Prim.Native.Nat.{ℕ, _+_, _*_, _≤_, _<_}
+use mathlib.Core.List.{List, _++_, List·Memᴰ}
+use Prim.Native.Nat.{ℕ, _+_, _-_, _*_, _/_, _%_, _^_, _≤_, _<_}
 use lib.ListN.{length, take}
-use Rattle.meaning.specs.Curve.{flat}
-use Rattle.meaning.specs.Server.{noServer}
-use Rattle.meaning.specs.Refusal.{HEADER, LENGTH, PAD, Lines, _when_, _or_, Clear}
-use Rattle.meaning.specs.Profile.{edition, curveKind, serverKind, field, bucketsIn, editionOf, kindIn, bytesTaken, padding, Reading, ReadPartOutcome}
+use Rattle.meaning.specs.Curve.{flat, curveOf}
+use Rattle.meaning.specs.Server.{Server, noServer}
+use Rattle.meaning.specs.ServerQuestions.{ServerInRange}
+use Rattle.meaning.specs.Refusal.{HEADER, LENGTH, PAD, Lines, _when_, _or_, Clear, AllInRange, BytesQuestion}
+use Rattle.meaning.specs.Profile.{bitsOf, packed, fileBits, edition, curveKind, serverKind, curve, server, bucketFields, written, field, bucketsIn, editionOf, kindIn, bytesTaken, padding, Reading, ReadPartOutcome}
 use Rattle.servers.specs.Contracts.{serverOf}
 use Rattle.profiles.specs.declared.Profile as held-profile
 
@@ -80,3 +81,87 @@ pub record Decoded (file : List ℕ) (count : ℕ) (pairs : List ℕ) : Type 0 w
 -- A file is read, and every list that is lent stays.
 pub record ReadAlone (file : List ℕ) (x : held-profile.Profile) : Type 0 where
   pub outcome : (at room : ℕ) (table : List ℕ) → ReadPartOutcome file at room table table (readingOf x)
+
+-- ---- Packing.
+
+-- What is packed up to a bit: the bytes that are full, and what is left.
+unfoldable pub packedBits : List ℕ → ℕ → ℕ → List ℕ
+packedBits bytes at left = fileBits (take (at / 8) bytes) ++ bitsOf (at % 8) left
+
+-- Every number of a list is a byte.
+abbrev pub AreBytes : List ℕ → Type 0
+AreBytes l = (x : ℕ) → List·Memᴰ x l → x < 256
+
+-- A field of at most 40 bits, into which x fits, that lies in the bytes, not further on than 4096 bits.
+pub record Fitting (bytes : List ℕ) (at left width x : ℕ) : Type 0 where
+  pub left-fits : left < 2 ^ (at % 8)
+  pub fits : x < 2 ^ width
+  pub inside : at + width ≤ 8 * length bytes
+  pub near : at ≤ 4096
+  pub narrow : width ≤ 40
+
+-- Two such fields, the second behind the first.
+pub record FittingTwo (bytes : List ℕ) (at left width x width-behind y : ℕ) : Type 0 where
+  pub left-fits : left < 2 ^ (at % 8)
+  pub fits : x < 2 ^ width
+  pub fits-behind : y < 2 ^ width-behind
+  pub inside : at + width + width-behind ≤ 8 * length bytes
+  pub near : at ≤ 4000
+  pub narrow : width ≤ 40
+  pub narrow-behind : width-behind ≤ 40
+
+-- Bits are packed behind those that are packed up to a bit.
+pub record Appends (before : List ℕ) (at left : ℕ) (bits after : List ℕ) (to rest : ℕ) : Type 0 where
+  pub is : packedBits after to rest ≡ packedBits before at left ++ bits
+  pub rest-fits : rest < 2 ^ (to % 8)
+  pub whole : AreBytes (take (at / 8) before) → AreBytes (take (to / 8) after)
+  pub long : length after ≡ length before
+
+-- A server that is in range, and room for its bytes.
+pub record PackableServer (s : Server) (bytes : List ℕ) : Type 0 where
+  pub ranged : ServerInRange s
+  pub room : length bytes ≡ 482
+
+-- Its file.
+unfoldable pub serverBytes : Server → List ℕ
+serverBytes s = written edition (server s)
+
+-- The list of a curve of 1 to 64 buckets that are in range, and room for its bytes.
+pub record PackableCurve (l bytes : List ℕ) : Type 0 where
+  pub ranged : AllInRange (curveOf l)
+  pub some : 1 ≤ length (curveOf l)
+  pub few : length (curveOf l) ≤ 64
+  pub room : length bytes ≡ 482
+
+-- A count of 1 to 64, and room.
+pub record HeadRoom (count : ℕ) (bytes : List ℕ) : Type 0 where
+  pub some : 1 ≤ count
+  pub few : count ≤ 64
+  pub room : length bytes ≡ 482
+
+-- The bits before a curve's buckets: edition, kind, count minus one.
+unfoldable pub headBits : ℕ → List ℕ
+headBits count = bitsOf 4 edition ++ bitsOf 4 curveKind ++ bitsOf 6 (count - 1)
+
+-- The bits of its buckets,
+unfoldable pub bucketBits : List ℕ → List ℕ
+bucketBits l = packed (bucketFields (curveOf l))
+
+-- the bit behind them,
+unfoldable pub bitCount : List ℕ → ℕ
+bitCount l = 14 + 60 * length (curveOf l)
+
+-- and its file.
+unfoldable pub curveBytes : List ℕ → List ℕ
+curveBytes l = written edition (curve (curveOf l))
+
+-- It stands at the start of the bytes, and has so many.
+pub record PackedCurve (l bytes : List ℕ) (count : ℕ) : Type 0 where
+  pub is : take count bytes ≡ curveBytes l
+  pub few : count ≤ 482
+
+-- ---- Handing over.
+
+-- Bytes that are there already, as the answer to a question that refuses nothing.
+unfoldable pub handing : List ℕ → BytesQuestion
+handing bytes = record { operands = λ _. ⊥; Answer = λ answer. answer ≡ bytes }

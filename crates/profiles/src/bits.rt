@@ -12,7 +12,7 @@ fn wide(byte: u8) -> u64
 
 // The number in the field of `width` bits that begins at bit `at`: the bytes that hold it, taken whole, without the bits behind
 // it and those before it.
-pub(crate) fn field_at(file: &[u8], at: usize, width: usize) -> u64
+fn field_at(file: &[u8], at: usize, width: usize) -> u64
     requires { ⌜ InFile (now file) at width ⌝ }
     ensures { λ r. ⌜ r ≡ field (now (file .entry)) at width ⌝ }
 {
@@ -25,4 +25,32 @@ pub(crate) fn field_at(file: &[u8], at: usize, width: usize) -> u64
     }
     let behind = 8 * i - end;
     (taken >> behind) % (1u64 << width)
+}
+
+// A file, and the bit at which its next field begins.
+struct BitReader<'a> {
+    file: &'a [u8],
+    at: usize,
+}
+
+fn reader_at<'a>(file: &'a [u8], at: usize) -> BitReader<'a>
+    ensures { λ r. ⌜ (r .file ≡ file .entry) × (r .at ≡ at) ⌝ }
+{
+    BitReader { file, at }
+}
+
+// The number in the next `width` bits.
+fn take_bits<'a>(reader: BitReader<'a>, width: usize) -> u64
+    requires { ⌜ InFile (now (reader .file)) (reader .at) width ⌝ }
+    ensures { λ r. ⌜ r ≡ field (now (reader .entry .file)) (reader .entry .at) width ⌝ }
+{
+    field_at(reader.file, reader.at, width)
+}
+
+// The number in the field of `width` bits that begins at bit `at`, taken by a reader of the file.
+pub(crate) fn take_field(file: &[u8], at: usize, width: usize) -> u64
+    requires { ⌜ InFile (now file) at width ⌝ }
+    ensures { λ r. ⌜ r ≡ field (now (file .entry)) at width ⌝ }
+{
+    take_bits(reader_at(file, at), width)
 }

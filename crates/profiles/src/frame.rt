@@ -8,9 +8,6 @@ ghost use Rattle.meaning.specs.Refusal.{Verdict};
 ghost use Rattle.meaning.specs.Profile.{spelt, padding, bytesTaken};
 ghost use Rattle.profiles.specs.Contracts.{headerLine, frameLines};
 
-// The edition that is read and written.
-const EDITION: u64 = 1;
-
 // HEADER, or 0.
 fn header(file: &[u8]) -> u64
     ensures { λ r. ⌜ Verdict (headerLine (now (file .entry))) r ⌝ }
@@ -18,7 +15,7 @@ fn header(file: &[u8]) -> u64
     if file.len() == 0 {
         return limits::HEADER;
     }
-    if bits::field_at(file, 0, 4) != EDITION {
+    if bits::take_field(file, 0, 4) != crate::EDITION {
         return limits::HEADER;
     }
     let kind = crate::kind_in(file);
@@ -40,7 +37,7 @@ fn padding_in(file: &[u8]) -> u64
         return 0;
     }
     let end = 14 + 60 * crate::count_in(file);
-    bits::field_at(file, end, 8 * file.len() - end)
+    bits::take_field(file, end, 8 * file.len() - end)
 }
 
 // HEADER, LENGTH, PAD, or 0.

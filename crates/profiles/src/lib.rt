@@ -1,13 +1,21 @@
 // The store's profile file, read and written: fields packed bit after bit, most significant bit first.
 mod bits;
 mod frame;
+mod packing;
 mod reader;
+mod writer;
 
+use checks::limits;
 use servers::Server;
 ghost use mathlib.Core.Path.{_≡_};
 ghost use lib.ListN.{length};
-ghost use Rattle.meaning.specs.Profile.{kindIn, bytesTaken, ReadOutcome, ReadPartOutcome};
-ghost use Rattle.profiles.specs.Contracts.{Counts, readingOf, refusedReading};
+ghost use Rattle.meaning.specs.Profile.{kindIn, bytesTaken, ReadOutcome, ReadPartOutcome, WriteCurveOutcome, WriteServerOutcome};
+ghost use Rattle.meaning.specs.Refusal.{BytesOutcome};
+ghost use Rattle.servers.specs.Contracts.{serverOf};
+ghost use Rattle.profiles.specs.Contracts.{Counts, readingOf, refusedReading, handing};
+
+// The edition that is read and written.
+const EDITION: u64 = 1;
 
 // The kinds of profiles.
 pub const CURVE: u64 = 1;
@@ -23,6 +31,12 @@ pub struct Profile {
     pub server: Server,
 }
 
+// What a writer answers: a code, 0 for bytes that are written, and their count, 0 for a refusal.
+pub struct Written {
+    pub code: u64,
+    pub bytes: u64,
+}
+
 // The kind of the profile that an input begins with. (Of an empty one it is 0.)
 pub fn kind_in(input: &[u8]) -> u64
     ensures { λ r. ⌜ r ≡ kindIn (now (input .entry)) ⌝ }
@@ -30,7 +44,7 @@ pub fn kind_in(input: &[u8]) -> u64
     if input.len() == 0 {
         return 0;
     }
-    bits::field_at(input, 4, 4)
+    bits::take_field(input, 4, 4)
 }
 
 // How many buckets the curve has that an input begins with.
@@ -40,7 +54,7 @@ fn count_in(input: &[u8]) -> usize
     if input.len() < 2 {
         return 1;
     }
-    bits::field_at(input, 8, 6) as usize + 1
+    bits::take_field(input, 8, 6) as usize + 1
 }
 
 // The bytes that the profile takes that an input begins with, by its kind and count.
@@ -89,4 +103,47 @@ pub fn read(file: &[u8], out: &mut [u64]) -> Profile
 {
     let room = out.len();
     read_in(file, out, 0, room)
+}
+
+// Hands bytes over, to the start of a lent buffer.
+pub fn hand_over(bytes: &[u8], buffer: &mut [u8]) -> Written
+    ensures { λ r. ⌜ BytesOutcome (handing (now (bytes .entry))) (now (buffer .entry)) (now (buffer .exit)) (r .code) (r .bytes) ⌝ }
+{
+    if buffer.len() < bytes.len() {
+        return Written {
+            code: limits::ROOM,
+            bytes: 0,
+        };
+    }
+    writer::fill(bytes, buffer);
+    Written {
+        code: 0,
+        bytes: bytes.len() as u64,
+    }
+}
+
+// Writes a curve as a file, to the start of a lent buffer.
+pub fn write_curve(curve: &[u64], buffer: &mut [u8]) -> Written
+    ensures { λ r. ⌜ WriteCurveOutcome (now (curve .entry)) (now (buffer .entry)) (now (buffer .exit)) (r .code) (r .bytes) ⌝ }
+{
+    let code = checks::curve(curve);
+    if code != 0 {
+        return Written { code, bytes: 0 };
+    }
+    let mut bytes = [0u8; 482];
+    let count = packing::pack_curve(curve, &mut bytes);
+    hand_over(&bytes[..count], buffer)
+}
+
+// Writes a server as a file, to the start of a lent buffer.
+pub fn write_server(server: Server, buffer: &mut [u8]) -> Written
+    ensures { λ r. ⌜ WriteServerOutcome (serverOf server) (now (buffer .entry)) (now (buffer .exit)) (r .code) (r .bytes) ⌝ }
+{
+    let code = server.refusal();
+    if code != 0 {
+        return Written { code, bytes: 0 };
+    }
+    let mut bytes = [0u8; 482];
+    packing::pack_server(server, &mut bytes);
+    hand_over(&bytes[..6], buffer)
 }

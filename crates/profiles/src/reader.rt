@@ -14,8 +14,8 @@ pub(crate) fn server(file: &[u8]) -> Profile
     requires { ⌜ ServerFile (now file) ⌝ }
     ensures { λ r. ⌜ ReadAlone (now (file .entry)) r ⌝ }
 {
-    let rate = bits::field_at(file, 8, 20);
-    let latency = bits::field_at(file, 28, 20);
+    let rate = bits::take_field(file, 8, 20);
+    let latency = bits::take_field(file, 28, 20);
     let server = Server { rate, latency };
     let code = server.refusal();
     if code != 0 {
@@ -38,8 +38,8 @@ fn decode(file: &[u8], count: usize, pairs: &mut [u64])
     let mut k = 0;
     while k < count {
         let at = 14 + 60 * k;
-        pairs[2 * k] = bits::field_at(file, at, 20);
-        pairs[2 * k + 1] = bits::field_at(file, at + 20, 40);
+        pairs[2 * k] = bits::take_field(file, at, 20);
+        pairs[2 * k + 1] = bits::take_field(file, at + 20, 40);
         k += 1;
     }
 }

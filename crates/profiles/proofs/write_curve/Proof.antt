@@ -1,0 +1,25 @@
+-- `write_curve` meets its contract: the curve is refused, or packed and handed over.
+-- Assumes nothing.
+use lib.ListN.{length-take}
+use native.Mathlib.Omega.{arith}
+use Rattle.profiles.proofs.Handing.{curve-writes}
+use borrow.Author.Needs.{needs}
+use Rattle.profiles.proofs.write_curve.Statement.{statement}
+use Rattle.profiles.proofs.write_curve.Tie as tie
+
+slice-aggregate-hand-over : tie.Need-slice-aggregate-hand-over
+slice-aggregate-hand-over c = simp length-take (omega arith)
+
+pub write-curve-spec : {M : Type 1} → statement M
+write-curve-spec =
+    tie.close
+    (tie.spec
+    (λ c κs. search needs)
+    (λ c. search (curve-writes, needs))
+    (λ c. search needs)
+    (λ c κs. search (curve-writes, needs))
+    (λ c. search (curve-writes, needs))
+    slice-aggregate-hand-over
+    (λ c κs. search needs)
+    (λ c. search needs)
+    (λ c. search (curve-writes, needs)))

@@ -1,0 +1,96 @@
+// Fields packed bit after bit, most significant bit first, into bytes. What does not fill a byte yet is `left`, a number of as
+// many bits as the position is past the byte's start.
+use servers::Server;
+ghost use mathlib.Core.Path.{_≡_};
+ghost use mathlib.Core.List.{_++_};
+ghost use Prim.Native.Nat.{_+_, _<_};
+ghost use lib.ListN.{length, take};
+ghost use Rattle.meaning.specs.Profile.{bitsOf};
+ghost use Rattle.servers.specs.Contracts.{serverOf};
+ghost use Rattle.profiles.specs.Contracts.{Fitting, FittingTwo, Appends, HeadRoom, headBits, PackableServer, serverBytes, PackableCurve, bucketBits, bitCount, PackedCurve};
+
+// Packs a field of `width` bits that begins at bit `at`, and answers what is left.
+fn put(bytes: &mut [u8], at: usize, left: u64, width: usize, x: u64) -> u64
+    requires { ⌜ Fitting (now bytes) at left width x ⌝ }
+    ensures { λ r. ⌜ Appends (now (bytes .entry)) at left (bitsOf width x) (now (bytes .exit)) (at + width) r ⌝ }
+{
+    let mut i = at / 8;
+    let mut pending = at % 8 + width;
+    let mut rest = (left << width) + x;
+    while 8 <= pending {
+        pending -= 8;
+        bytes[i] = (rest >> pending) as u8;
+        rest = rest % (1u64 << pending);
+        i += 1;
+    }
+    rest
+}
+
+// Packs two fields, the second behind the first.
+fn put_two(
+    bytes: &mut [u8],
+    at: usize,
+    left: u64,
+    width: usize,
+    x: u64,
+    width_behind: usize,
+    y: u64,
+) -> u64
+    requires { ⌜ FittingTwo (now bytes) at left width x «width_behind» y ⌝ }
+    ensures { λ r. ⌜ Appends (now (bytes .entry)) at left (bitsOf width x ++ bitsOf «width_behind» y) (now (bytes .exit)) (at + width + «width_behind») r ⌝ }
+{
+    let rest = put(bytes, at, left, width, x);
+    put(bytes, at + width, rest, width_behind, y)
+}
+
+// Packs a server, which takes six bytes.
+pub(crate) fn pack_server(server: Server, bytes: &mut [u8])
+    requires { ⌜ PackableServer (serverOf server) (now bytes) ⌝ }
+    ensures { λ _. ⌜ take 6 (now (bytes .exit)) ≡ serverBytes (serverOf server) ⌝ }
+{
+    let rate = server.rate;
+    let latency = server.latency;
+    let left = put_two(bytes, 0, 0, 4, crate::EDITION, 4, crate::SERVER);
+    put_two(bytes, 8, left, 20, rate, 20, latency);
+}
+
+// Packs edition, kind and count of a curve.
+fn pack_head(count: usize, bytes: &mut [u8]) -> u64
+    requires { ⌜ HeadRoom count (now bytes) ⌝ }
+    ensures { λ r. ⌜ Appends (now (bytes .entry)) 0 0 (headBits count) (now (bytes .exit)) 14 r ⌝ }
+{
+    let left = put_two(bytes, 0, 0, 4, crate::EDITION, 4, crate::CURVE);
+    put(bytes, 8, left, 6, (count - 1) as u64)
+}
+
+// Packs the buckets of a curve one after the other, behind the count.
+fn pack_buckets(curve: &[u64], bytes: &mut [u8], left: u64) -> u64
+    requires { ⌜ PackableCurve (now curve) (now bytes) ⌝ }
+    requires { ⌜ left < 64 ⌝ }
+    ensures { λ r. ⌜ Appends (now (bytes .entry)) 14 left (bucketBits (now (curve .entry))) (now (bytes .exit)) (bitCount (now (curve .entry))) r ⌝ }
+{
+    let count = checks::bucket_count(curve);
+    let mut rest = left;
+    let mut k = 0;
+    while k < count {
+        let bucket = checks::bucket_at(curve, k);
+        let at = 14 + 60 * k;
+        rest = put_two(bytes, at, rest, 20, bucket.rate, 40, bucket.burst);
+        k += 1;
+    }
+    rest
+}
+
+// Packs a curve, with zero bits up to the byte's end, and answers how many bytes it takes.
+pub(crate) fn pack_curve(curve: &[u64], bytes: &mut [u8]) -> usize
+    requires { ⌜ PackableCurve (now curve) (now bytes) ⌝ }
+    ensures { λ r. ⌜ PackedCurve (now (curve .entry)) (now (bytes .exit)) r ⌝ }
+{
+    let count = checks::bucket_count(curve);
+    let head = pack_head(count, bytes);
+    let left = pack_buckets(curve, bytes, head);
+    let end = 14 + 60 * count;
+    let padding = 7 - (end + 7) % 8;
+    put(bytes, end, left, padding, 0);
+    (end + padding) / 8
+}
