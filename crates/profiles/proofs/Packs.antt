@@ -20,7 +20,7 @@ use Rattle.meaning.proofs.profile.Bits.{bytes-of-file}
 use Rattle.meaning.proofs.profile.Files.{curve-bits, server-bits}
 use Rattle.checks.specs.Contracts.{bucketOf, nth}
 use Rattle.checks.specs.declared.Bucket as held-bucket
-use Rattle.servers.proofs.Joins.{port}
+use Rattle.servers.specs.Contracts.{port}
 use Rattle.profiles.specs.Contracts.{packedBits, AreBytes, Fitting, FittingTwo, Appends, PackableServer, serverBytes, PackableCurve, HeadRoom, headBits, bucketBits, bitCount, curveBytes, PackedCurve}
 
 -- ---- Bits behind bits.

@@ -22,7 +22,7 @@ use Rattle.checks.proofs.Checks.{passed}
 use Rattle.settle.specs.Contracts.{delivering}
 use Rattle.settle.proofs.Delivering.{delivery-clear}
 use Rattle.servers.specs.Contracts.{serverOf}
-use Rattle.servers.proofs.Joins.{port}
+use Rattle.servers.specs.Contracts.{port}
 use Rattle.profiles.specs.declared.Profile as held-profile
 use Rattle.profiles.specs.Contracts.{InFile, countIn, Counts, frameLines, readingOf, refusedReading, ServerFile, CurveFile, Holds, Decoded, ReadAlone}
 use Rattle.profiles.proofs.Header.{taken-by-curve, taken-by-server}

@@ -2,9 +2,13 @@
 -- Assumes nothing.
 use mathlib.Core.Path.{_≡_}
 use mathlib.Core.List.{List, [], _∷_, _++_}
-use Prim.Native.Nat.{ℕ, _+_, _≤_}
+use Prim.Native.Nat.{ℕ, _+_, _*_, _≤_}
 use lib.ListN.{length, take, drop}
-use Rattle.meaning.specs.Route.{Figures, digits}
+use Rattle.meaning.specs.Curve.{listOf}
+use Rattle.meaning.specs.Server.{Server}
+use Rattle.meaning.specs.Refusal.{Verdict}
+use Rattle.meaning.specs.Profile.{profileOf, bucketsOf, serverIn}
+use Rattle.meaning.specs.Route.{firstFile, IsCurve, IsServer, dueLines, Figures, digits}
 
 -- ---- Text, piece by piece.
 
@@ -32,3 +36,22 @@ lineText word x between y =
 -- Backlog and delay.
 abbrev pub figures : ℕ → ℕ → Figures
 figures backlog delay = record { backlog = backlog; delay = delay }
+
+-- ---- Reading.
+
+-- The first file of an input ends at a place of it.
+pub record FirstEnd (input : List ℕ) (end : ℕ) : Type 0 where
+  pub inside : end ≤ length input
+  pub is : take end input ≡ firstFile input
+
+-- What stands at the start of an input, where the curve is due, with its list from the start of a list of 128 numbers.
+pub record CurveRead (input list : List ℕ) (code count : ℕ) : Type 0 where
+  pub verdict : Verdict (dueLines IsCurve input) code
+  pub told : code ≡ 0 → take (2 * count) list ≡ listOf (bucketsOf (profileOf input))
+  pub few : count ≤ 64
+  pub long : length list ≡ 128
+
+-- The same where a server is due.
+pub record ServerRead (input : List ℕ) (code : ℕ) (s : Server) : Type 0 where
+  pub verdict : Verdict (dueLines IsServer input) code
+  pub told : code ≡ 0 → s ≡ serverIn (profileOf input)
