@@ -1,4 +1,4 @@
 -- The laws that the proofs of this crate's functions cite.
 pub mod Putting
 pub mod Spelling
-pub mod Reading
+pub mod Due

@@ -39,9 +39,10 @@ figures backlog delay = record { backlog = backlog; delay = delay }
 
 -- ---- Reading.
 
--- The first file of an input ends at a place of it.
+-- The first file of an input ends at a place of it. (The second line follows from the first: what lends that part asks for it.)
 pub record FirstEnd (input : List ℕ) (end : ℕ) : Type 0 where
   pub inside : end ≤ length input
+  pub lent : end ≡ length (take end input)
   pub is : take end input ≡ firstFile input
 
 -- What stands at the start of an input, where the curve is due, with its list from the start of a list of 128 numbers.
