@@ -14,3 +14,4 @@ pub mod Codes
 pub mod Refusals
 pub mod Known
 pub mod Slips
+pub mod Enough
