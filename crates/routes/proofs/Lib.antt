@@ -2,3 +2,4 @@
 pub mod Putting
 pub mod Spelling
 pub mod Due
+pub mod Hops

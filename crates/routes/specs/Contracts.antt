@@ -1,14 +1,18 @@
 -- What the contracts of this crate's own functions cite, beside the definitions of the crate meaning.
 -- Assumes nothing.
 use mathlib.Core.Path.{_≡_}
+use mathlib.Core.Bool.{Bool, true, false}
+use mathlib.Core.Logic.{_⊎_, _≢_}
+use mathlib.Core.Option.{Option, none, some}
 use mathlib.Core.List.{List, [], _∷_, _++_}
-use Prim.Native.Nat.{ℕ, _+_, _*_, _≤_}
+use Prim.Native.Nat.{ℕ, zero, suc, _+_, _*_, _≤_, _<_}
 use lib.ListN.{length, take, drop}
 use Rattle.meaning.specs.Curve.{listOf}
 use Rattle.meaning.specs.Server.{Server}
-use Rattle.meaning.specs.Refusal.{Verdict}
-use Rattle.meaning.specs.Profile.{profileOf, bucketsOf, serverIn}
-use Rattle.meaning.specs.Route.{firstFile, IsCurve, IsServer, dueLines, Figures, digits}
+use Rattle.meaning.specs.Refusal.{Clear, Verdict}
+use Rattle.meaning.specs.ServerQuestions.{HopOutcome}
+use Rattle.meaning.specs.Profile.{profileOf, bytesTaken, bucketsOf, serverIn}
+use Rattle.meaning.specs.Route.{firstFile, IsCurve, IsServer, dueLines, joinLines, joinedWith, Figures, digits, Route}
 
 -- ---- Text, piece by piece.
 
@@ -56,3 +60,40 @@ pub record CurveRead (input list : List ℕ) (code count : ℕ) : Type 0 where
 pub record ServerRead (input : List ℕ) (code : ℕ) (s : Server) : Type 0 where
   pub verdict : Verdict (dueLines IsServer input) code
   pub told : code ≡ 0 → s ≡ serverIn (profileOf input)
+
+-- ---- Hop by hop.
+
+-- Whether a server is due, where so many are passed: none is passed yet, or bytes are left.
+pub record Due (passed at end : ℕ) (due : Bool) : Type 0 where
+  pub is-due : due ≡ true → (passed ≡ 0) ⊎ (at < end)
+  pub is-not : due ≡ false → (1 ≤ passed) × (end ≤ at)
+
+-- The servers joined, where so many are passed.
+unfoldable pub joinedAfter : ℕ → Server → Option Server
+joinedAfter zero s = none
+joinedAfter (suc passed) s = some s
+
+-- A server is joined with those before it.
+pub record JoinTo (passed : ℕ) (before s : Server) (code : ℕ) (joined : Server) : Type 0 where
+  pub verdict : Verdict (joinLines (joinedAfter passed before) s) code
+  pub is : code ≡ 0 → joined ≡ joinedWith (joinedAfter passed before) s
+
+-- What comes of a server and a curve, f, at a hop: it is not read, or it is, and with 128 numbers lent the hop is asked.
+pub data HopAt (rest f after : List ℕ) (code count backlog delay : ℕ) (s : Server) : Type 0 where
+  unread : Verdict (dueLines IsServer rest) code → code ≢ 0 → HopAt rest f after code count backlog delay s
+  asked :
+      (lent : List ℕ) → length lent ≡ 128 → Clear (dueLines IsServer rest)
+      → HopOutcome f (serverIn (profileOf rest)) lent after code count backlog delay s
+      → HopAt rest f after code count backlog delay s
+
+-- The input begins with a curve, whose list is f, and which takes so many bytes.
+pub record Starts (input f : List ℕ) (start : ℕ) : Type 0 where
+  pub clear : Clear (dueLines IsCurve input)
+  pub list : f ≡ listOf (bucketsOf (profileOf input))
+  pub taken : start ≡ bytesTaken input
+
+-- The text stands at the start of a list, up to a place. (The second line follows from the first: what lends that part asks for it.)
+pub record TextOf (input text : List ℕ) (end : ℕ) : Type 0 where
+  pub inside : end ≤ length text
+  pub lent : end ≡ length (take end text)
+  pub is : Route input (take end text)
