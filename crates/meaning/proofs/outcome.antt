@@ -7,3 +7,5 @@ pub mod Slips
 pub mod Demands
 pub mod Bytes
 pub mod EveryInput
+pub mod KnownServers
+pub mod ServerSlips

@@ -14,14 +14,14 @@ use Rattle.meaning.specs.Curve.{Bucket, buckets, flat, curveOf, added, pairs, l
 use Rattle.meaning.specs.Refusal.{RANGE, number, Lines, _or_, Clear, Verdict, AllInRange, rawLines, curveLines, Question, over, PartOutcome}
 use Rattle.meaning.specs.CurveQuestions.{linkLine, normalising, lowering, summing, shaping}
 use Rattle.meaning.specs.Computed.{earlier}
-use Rattle.meaning.proofs.curve.Curves.{pairs-from, pairs-length}
+use Rattle.meaning.proofs.curve.Curves.{pairs-from, pairs-length, same-buckets-normal}
 use Rattle.meaning.proofs.outcome.Answers.{raw-some, list-up-to, curve-up-to}
 use Rattle.meaning.proofs.outcome.Outcomes.{up-to-when, up-to-or, clear-or, verdict-or, refuse-in-part, asked-so-in-part, whole-list}
 use Rattle.settle.specs.Contracts.{AllWide, settling}
 use Rattle.meaning.proofs.Lists.{append-each, buckets-flat, flat-length}
 use Rattle.checks.proofs.Buckets.{flat-buckets}
 use Rattle.operations.specs.Contracts.{merged}
-use Rattle.operations.proofs.Merging.{normal-of-same, merged-from, merged-to, merged-length}
+use Rattle.operations.proofs.Merging.{merged-from, merged-to, merged-length}
 use Rattle.checks.proofs.Checks.{passed, clear-first, clear-second, list-ranges, list-even, curve-ranged, curve-some, curve-few}
 
 -- buckets in their range are within twice their range
@@ -44,7 +44,7 @@ module _
         clear-or (λ r h. ⊎-elim (λ none. omega (arith, flat-length f)) (λ odd. odd (omega (arith, flat-length f))) (h .1))
         (λ r h. h .1 (rw buckets-flat all))
 
-    settled :
+    pub settled :
         {at room : ℕ} {before after : List ℕ} {code count : ℕ}
         → PartOutcome (settling (flat f)) at room before after code count → PartOutcome ask at room before after code count
     unfolding settling
@@ -59,9 +59,6 @@ module _
     (back : (h : List Bucket) → ask .Answer h → NormalOf (f ++ g) h)
     (clear : Clear (ask .operands)) (some : 1 ≤ length f) (all : AllWide f) (all′ : AllWide g)
   where
-    both-some : 1 ≤ length (f ++ g)
-    both-some = omega (arith, length-append f g)
-
     merged-some : 1 ≤ length (merged f g)
     merged-some = omega (arith, merged-length f g)
 
@@ -70,8 +67,8 @@ module _
         → PartOutcome (settling (flat (merged f g))) at room before after code count → PartOutcome ask at room before after code count
     merged-settled =
         settled ask (merged f g)
-        (λ h n. to h (normal-of-same (merged-from f g) (merged-to f g) merged-some both-some h n))
-        (λ h n. normal-of-same (merged-to f g) (merged-from f g) both-some merged-some h (back h n))
+        (λ h n. to h (same-buckets-normal (merged-from f g) (merged-to f g) n))
+        (λ h n. same-buckets-normal (merged-to f g) (merged-from f g) (back h n))
         clear merged-some
         (λ k m. append-each all all′ k (merged-from f g k m))
 

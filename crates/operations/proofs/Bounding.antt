@@ -24,14 +24,11 @@ use Rattle.meaning.proofs.server.Joining.{last-inside, last-slowest, rounded-up
 use Rattle.meaning.proofs.server.Delay.{delay-of-nothing, delay-from-excess}
 use Rattle.meaning.proofs.server.Sizes.{excess-bound}
 use Rattle.meaning.proofs.outcome.Outcomes.{refusal}
-use Rattle.checks.specs.Contracts.{Tells, nth}
+use Rattle.checks.specs.Contracts.{Tells}
 use Rattle.servers.specs.Contracts.{port}
 use Rattle.operations.specs.Contracts.{bucket, Tested, TestedPort, LeastOf, FirstSlow}
-use Rattle.operations.proofs.Turning.{last-numbered, slow-from}
+use Rattle.operations.proofs.Turning.{nowhere, last-numbered, slow-from}
 use Rattle.operations.proofs.Refusing.{port-clear, tested-port}
-
-abbrev nowhere : Bucket
-nowhere = record { rate = 0; burst = 0 }
 
 -- M is below 2^40: the last bucket's burst is
 pub excess-small : (f : List Bucket) {rate latency m : ℕ} → TestedPort f rate latency → Excess f rate m → m < 2 ^ 40

@@ -4,6 +4,9 @@ pub mod Valuing
 pub mod Turning
 pub mod Refusing
 pub mod Bounding
+pub mod Leaving
+pub mod Lining
+pub mod Passing
 pub mod Merging
 pub mod Adding
 pub mod Pairing

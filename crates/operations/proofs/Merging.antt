@@ -1,46 +1,24 @@
 -- Two lists of buckets merged by falling rates: the same buckets, so the same normal form; and the merging step by step.
 -- Assumes nothing.
-use mathlib.Core.Path.{_≡_, refl, sym, _∙_, ap, subst}
-use mathlib.Core.Logic.{_⊎_, inl, inr, ⊎-elim}
+use mathlib.Core.Path.{_≡_, refl, sym, _∙_, ap}
+use mathlib.Core.Logic.{inl, inr}
 use mathlib.Core.Bool.{Bool, true, false, cond, true≢false}
 use mathlib.Core.List.{List, [], _∷_, _++_, List·Memᴰ·head, List·Memᴰ·tail, List·Memᴰ·cases-cons, List·Memᴰ·append-cases, Memᴰ·append-left, Memᴰ·append-right}
 use Prim.Native.Nat.{ℕ, _+_, _*_, _≤_, _<_}
-use native.Mathlib.Nat.{le-antisymm}
 use native.Mathlib.Omega.{arith}
 use mir.Syntax.{w64}
 use mir.Val.{Fits}
-use lib.ListN.{length, getD, drop, set, length-drop, drop-of-length-le}
-use lib.Seq.{drop-drop, drop-cons}
+use lib.ListN.{length, drop, set, length-drop, drop-of-length-le}
+use lib.Seq.{drop-drop}
 use borrow.Author.Tests.{lt-ltb, le-ltb, le-leb, lt-leb}
-use Rattle.meaning.specs.Curve.{Bucket, _∈_, flat, valueAt, SameCurve, NormalOf}
+use Rattle.meaning.specs.Curve.{Bucket, _∈_, flat}
 use Rattle.meaning.specs.Refusal.{over}
 use Rattle.meaning.proofs.Lists.{flat-length}
-use Rattle.meaning.proofs.curve.Value.{value-least, value-reached}
 use Rattle.checks.specs.Contracts.{nth}
 use Rattle.checks.proofs.Buckets.{left-from}
 use Rattle.settle.proofs.Filling.{Filling, filling-start, filling-rate-fits, filling-rate-place, filling-burst-place, filling-step, filling-end, filling-kept}
 use Rattle.operations.specs.Contracts.{bucket, comesFirst, merged, NextOf}
 use Rattle.operations.specs.declared.gather.Next.{Next}
-
--- ---- Lists with the same buckets have the same normal form.
-
--- the value is no more where there are more buckets
-value-more :
-    (f g : List Bucket) (p q : ℕ) → ((k : Bucket) → k ∈ f → k ∈ g) → 1 ≤ length f → valueAt g p q ≤ valueAt f p q
-value-more f g p q more some =
-    let r = value-reached f p q some in
-    omega (arith, r .value-is, value-least g p q (more (r .bucket) (r .inside)))
-
-module _
-    {f g : List Bucket} (to : (k : Bucket) → k ∈ f → k ∈ g) (back : (k : Bucket) → k ∈ g → k ∈ f) (some : 1 ≤ length f)
-    (some′ : 1 ≤ length g)
-  where
-    same-buckets : SameCurve f g
-    same-buckets p q h = le-antisymm (value-more g f p q back some′) (value-more f g p q to some)
-
-    -- what is the normal form of the one is that of the other
-    pub normal-of-same : (n : List Bucket) → NormalOf f n → NormalOf g n
-    normal-of-same n x = record { form = x .form; same = λ p q h. sym (same-buckets p q h) ∙ x .same p q h }
 
 -- ---- Two lists merged have the buckets of both.
 

@@ -1,15 +1,15 @@
 -- The tests of a curve with a server: those of the curve and of the server, then the last rate against the server's.
 -- Assumes nothing.
-use mathlib.Core.Path.{_≡_, refl, sym, _∙_, ap, subst}
+use mathlib.Core.Path.{_≡_, _∙_}
 use mathlib.Core.List.{List}
 use Prim.Native.Nat.{ℕ, _-_, _≤_, _<_}
 use native.Mathlib.Omega.{arith}
 use lib.Dec.{lit≤}
 use lib.ListN.{length}
 use Rattle.meaning.specs.Curve.{Bucket, curveOf}
-use Rattle.meaning.specs.Server.{Server, last}
-use Rattle.meaning.specs.Refusal.{UNBOUNDED, number, Lines, _when_, _or_, Clear, Verdict, curveLines}
-use Rattle.meaning.specs.ServerQuestions.{ServerInRange, serverLines, portLines}
+use Rattle.meaning.specs.Server.{last}
+use Rattle.meaning.specs.Refusal.{UNBOUNDED, number, _when_, _or_, Clear, Verdict, curveLines}
+use Rattle.meaning.specs.ServerQuestions.{serverLines, portLines}
 use Rattle.meaning.proofs.Lists.{empty-is}
 use Rattle.meaning.proofs.Order.{not-above}
 use Rattle.meaning.proofs.outcome.Outcomes.{from-when, up-to-or, line-hit, line-miss, refused-first, refused-then}
@@ -18,7 +18,7 @@ use Rattle.meaning.proofs.outcome.Demands.{server-up-to, port-curve, port-serve
 use Rattle.checks.specs.Contracts.{nth}
 use Rattle.checks.proofs.Checks.{passed}
 use Rattle.servers.specs.Contracts.{port}
-use Rattle.operations.specs.Contracts.{bucket, Tested, TestedPort}
+use Rattle.operations.specs.Contracts.{bucket, TestedPort}
 use Rattle.operations.proofs.Valuing.{tested}
 use Rattle.operations.proofs.Turning.{last-numbered}
 

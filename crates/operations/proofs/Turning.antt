@@ -6,25 +6,24 @@ use mathlib.Core.Logic.{inl, inr}
 use mathlib.Core.List.{List, [], _∷_, _++_, List·Memᴰ·eq-of-singleton}
 use Prim.Native.Nat.{ℕ, zero, suc, _+_, _-_, _*_, _/_, _^_, _≤_, _<_, max}
 use native.Mathlib.Nat.{le-of-lt, le-trans, le-of-eq, mul-le-mul, div-le-self}
-use native.Mathlib.Numerals.{add-one}
 use native.Mathlib.Omega.{arith}
 use mir.Syntax.{w64}
 use mir.Val.{Fits}
-use lib.ListN.{length, take, drop, getD, take-append-drop, List·getD-eq-default, length-take}
+use lib.ListN.{length, take, drop, take-append-drop, length-take}
 use lib.Seq.{getD-take}
 use Rattle.meaning.specs.Curve.{Bucket, _∈_, bucketAt, NormalForm, reads}
-use Rattle.meaning.specs.Refusal.{InRange, AllInRange}
 use Rattle.meaning.specs.Server.{Excess, last}
 use Rattle.meaning.specs.Computed.{excessAt}
 use Rattle.meaning.proofs.Lists.{append-each, at-inside, inside-at, falling-at}
 use Rattle.meaning.proofs.Order.{le-or-lt}
 use Rattle.meaning.proofs.curve.Value.{same-rate, same-bucket-at, value-unique}
-use Rattle.meaning.proofs.server.Excess.{burst-below, Turn, tick, rise, fall, before-inside, first-inside, before-lowest, first-lowest, turn-excess, starting-excess}
+use Rattle.meaning.proofs.server.Excess.{burst-below, Turn, tick, before-lowest, first-lowest, turn-excess, starting-excess}
 use Rattle.checks.specs.Contracts.{nth}
 use Rattle.checks.proofs.Buckets.{left-from}
 use Rattle.operations.specs.Contracts.{bucket, Tested, LeastOf, FirstSlow, tickOf}
 
-abbrev nowhere : Bucket
+-- What is read past the last bucket.
+abbrev pub nowhere : Bucket
 nowhere = record { rate = 0; burst = 0 }
 
 -- ---- The last bucket by its number.

@@ -1,7 +1,7 @@
 -- Along a curve in normal form the values at a tick fall from bucket to bucket and then rise. So a walk that stops at the first
 -- bucket that does not go lower has the least value of all on its way, and of all that it did not come to.
 -- Assumes nothing.
-use mathlib.Core.Path.{_≡_, refl, sym, _∙_}
+use mathlib.Core.Path.{_≡_, sym}
 use mathlib.Core.Logic.{inl, inr}
 use mathlib.Core.List.{List}
 use Prim.Native.Nat.{ℕ, _+_, _-_, _*_, _^_, _≤_, _<_}

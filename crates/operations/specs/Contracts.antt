@@ -2,17 +2,18 @@
 -- Assumes nothing.
 use mathlib.Core.Path.{_≡_}
 use mathlib.Core.Bool.{Bool, true, false, cond}
-use mathlib.Core.List.{List, [], _∷_}
+use mathlib.Core.List.{List, [], _∷_, map}
 use Prim.Native.Nat.{ℕ, _-_, _/_, _≤_, _<_}
 use lib.Dec.{leb, ltb}
 use lib.ListN.{length, drop}
 use Rattle.meaning.specs.Curve.{Bucket, bucketAt, NormalForm}
 use Rattle.meaning.specs.Refusal.{AllInRange}
-use Rattle.meaning.specs.Server.{last}
+use Rattle.meaning.specs.Server.{noServer, later, last}
 use Rattle.meaning.specs.ServerQuestions.{ServerInRange}
 use Rattle.checks.specs.Contracts.{nth}
-use Rattle.servers.specs.Contracts.{port}
+use Rattle.servers.specs.Contracts.{port, serverOf}
 use Rattle.operations.specs.declared.gather.Next.{Next}
+use Rattle.operations.specs.declared.hops.Hop.{Hop}
 
 -- The bucket of two numbers.
 abbrev pub bucket : ℕ → ℕ → Bucket
@@ -59,9 +60,21 @@ merged [] g = g
 merged (k ∷ f) [] = k ∷ f
 merged (k ∷ f) (j ∷ g) = cond (comesFirst k j) (k ∷ merged f (j ∷ g)) (j ∷ merged (k ∷ f) g)
 
+-- The raw buckets of a curve behind a server: the line (rate, burst), then (r, b + r·T) for each bucket from `first` on.
+unfoldable pub lineAndLater : List Bucket → ℕ → ℕ → ℕ → ℕ → List Bucket
+lineAndLater f first rate burst latency = bucket rate burst ∷ map (later latency) (drop first f)
+
 -- The next bucket of two lists merged is the first of the one list or of the other, and the rest are merged behind it.
 pub record NextOf (f g : List Bucket) (next : Next) : Type 0 where
   pub first-list :
       next .first ≡ true → (1 ≤ length f) × (merged f g ≡ bucket (next .rate) (next .burst) ∷ merged (drop 1 f) g)
   pub second-list :
       next .first ≡ false → (1 ≤ length g) × (merged f g ≡ bucket (next .rate) (next .burst) ∷ merged f (drop 1 g))
+
+-- A hop that is refused, with its number: no count, no figures and no server.
+pub record NoHop (code : ℕ) (hop : Hop) : Type 0 where
+  pub code-is : hop .code ≡ code
+  pub no-count : hop .count ≡ 0
+  pub no-backlog : hop .backlog ≡ 0
+  pub no-delay : hop .delay ≡ 0
+  pub no-server : serverOf (hop .server) ≡ noServer

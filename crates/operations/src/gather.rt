@@ -1,11 +1,12 @@
-// Raw buckets gathered in local memory, from the start of a list on: those of two curves merged, or all added one to one.
+// Raw buckets gathered in local memory, from the start of a list on: those of two curves merged, or all added one to one, or those
+// of a curve behind a server.
 ghost use mathlib.Core.Path.{_≡_};
 ghost use mathlib.Core.List.{map};
 ghost use Prim.Native.Nat.{_+_, _≤_, _<_, _%_, _^_};
 ghost use lib.ListN.{length, drop};
 ghost use Rattle.meaning.specs.Curve.{buckets, flat, curveOf, added, pairs};
 ghost use Rattle.meaning.specs.Refusal.{AllInRange, over};
-ghost use Rattle.operations.specs.Contracts.{bucket, merged, NextOf};
+ghost use Rattle.operations.specs.Contracts.{Tested, bucket, merged, NextOf, lineAndLater};
 
 // A bucket, and whether it is the first curve's.
 struct Next {
@@ -110,4 +111,36 @@ pub(crate) fn add_pairs(f: &[u64], g: &[u64], out: &mut [u64]) -> usize
         i += 2;
     }
     at
+}
+
+// The raw buckets of a curve behind a server, written to the start of a list: the line (rate, burst), then (r, b + r * latency) for
+// each bucket from `first` on, so that rates fall. Answers the place after them.
+pub(crate) fn line_and_later(
+    curve: &[u64],
+    first: usize,
+    rate: u64,
+    burst: u64,
+    latency: u64,
+    out: &mut [u64],
+) -> usize
+    requires { ⌜ Tested (curveOf (now curve)) ⌝ }
+    requires { ⌜ first ≤ length (curveOf (now curve)) ⌝ }
+    requires { ⌜ latency < 2 ^ 20 ⌝ }
+    requires { ⌜ 130 ≤ length (now out) ⌝ }
+    ensures place { λ r. ⌜ r ≡ length (flat (lineAndLater (curveOf (now (curve .entry))) first rate burst latency)) ⌝ }
+    ensures written { λ _. ⌜ now (out .exit) ≡ over (flat (lineAndLater (curveOf (now (curve .entry))) first rate burst latency)) (now (out .entry)) ⌝ }
+{
+    let count = checks::bucket_count(curve) - first + 1;
+    out[0] = rate;
+    out[1] = burst;
+    let mut k = 1;
+    while k < count {
+        let here = checks::bucket_at(curve, first + k - 1);
+        let later = here.burst + here.rate * latency;
+        let at = 2 * k;
+        out[at] = here.rate;
+        out[at + 1] = later;
+        k += 1;
+    }
+    2 * count
 }

@@ -6,6 +6,7 @@ mod bounds;
 pub mod curves;
 mod excess;
 mod gather;
+pub mod hops;
 mod lowest;
 pub mod ports;
 mod refusals;

@@ -427,19 +427,29 @@ only-answered {numbers = numbers} {before = before} known o =
       | inr short ↦ absurd (omega (arith, known .without-room short o .code-same))
     ]
 
--- where no operand is refused and the answer is not too large, it is the only one
+-- where no operand is refused and the one answer is not too large, it is the only one
 module _
-    {ask : Question} {raw f : List Bucket}
-    (asks : AsksNormal ask raw) (clear : Clear (ask .operands)) (right : ask .Answer f) (fits : (length f ≤ 64) × EachInRange f)
+    {ask : Question} (f : List Bucket)
+    (one : Single (ask .Answer)) (clear : Clear (ask .operands)) (right : ask .Answer f) (fits : (length f ≤ 64) × EachInRange f)
   where
     small : TooLarge f → ⊥
     small (inl many) = omega (arith, fits .0)
     small (inr out) = out (all-in-range f (fits .1))
 
-    pub only-answer : OnlyAnswer ask (listOf f) (length f)
-    only-answer =
-        let one = single-normal asks in
+    -- given room it is written,
+    pub is-answered : (before : List ℕ) → length (listOf f) ≤ length before → Outcome ask before (over (listOf f) before) 0 (length f)
+    is-answered before room = written-out ask before clear right one small room
+
+    -- and nothing else comes of the question
+    pub only-single : OnlyAnswer ask (listOf f) (length f)
+    only-single =
         record {
-          with-room = λ {before} room o. one-outcome one o (written-out ask before clear right one small room);
+          with-room = λ {before} room o. one-outcome one o (is-answered before room);
           without-room = λ {before} short o. one-outcome one o (no-room ask before clear right one small short);
         }
+
+-- so it is of a question that the normal form of some buckets answers
+pub only-answer :
+    {ask : Question} {raw f : List Bucket} → AsksNormal ask raw → Clear (ask .operands) → ask .Answer f
+    → (length f ≤ 64) × EachInRange f → OnlyAnswer ask (listOf f) (length f)
+only-answer {f = f} asks = only-single f (single-normal asks)
