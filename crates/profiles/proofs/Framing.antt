@@ -1,11 +1,13 @@
 -- The first three lines of a file, in the order of their numbers: HEADER, LENGTH, PAD.
 -- Assumes nothing.
 use mathlib.Core.Path.{_≡_, refl, sym, _∙_, ap}
+use mathlib.Core.Bool.{Bool, true, false, not}
 use mathlib.Core.Logic.{_⊎_, inl, inr, _≢_}
 use mathlib.Core.List.{List, [], List·Memᴰ}
 use Prim.Native.Nat.{ℕ, _+_, _-_, _*_, _/_, _≤_, _<_}
 use native.Mathlib.Omega.{arith}
-use lib.Dec.{lit≤}
+use lib.Dec.{eqb, lit≤}
+use borrow.Author.Tests.{eqb-true, eqb-false, not-true, not-false}
 use lib.ListN.{length, drop, drop-of-length-le}
 use mir.Syntax.{w64}
 use mir.Val.{Fits}
@@ -14,6 +16,7 @@ use Rattle.meaning.specs.Profile.{spelt, fileBits, edition, curveKind, serverKi
 use Rattle.meaning.proofs.outcome.Outcomes.{from-when, from-or, up-to-when, up-to-or, line-hit, line-miss, refused-first, refused-then}
 use Rattle.meaning.proofs.profile.Bits.{one-spelt, spelt-one, length-file-bits}
 use Rattle.meaning.proofs.profile.Files.{curve-bits, server-bits, more-than-one-byte, length-buckets-in, held-curve, held-server, binary-padding, padding-field}
+use Rattle.checks.specs.Contracts.{Tells}
 use Rattle.profiles.specs.Contracts.{InFile, countIn, Counts, headerLine, frameLines}
 use Rattle.profiles.proofs.Header.{taken-by-curve}
 
@@ -120,33 +123,49 @@ pub ruleset pads =
 
 -- ---- The three together.
 
+-- the byte count is compared with the one required
+pub whole-told :
+    (file : List ℕ) {taken : ℕ} → taken ≡ bytesTaken file → Tells (length file ≡ bytesTaken file) (eqb (length file) taken)
+whole-told file {taken} t =
+    record {
+      yes-means = λ h. eqb-true (length file) taken h ∙ t;
+      no-means = λ h same. eqb-false (length file) taken h (same ∙ sym t);
+    }
+
+pub ruleset wholes = (whole-told)
+
+-- it is the same
+pub told-whole :
+    (file : List ℕ) {answer : Bool} → Tells (length file ≡ bytesTaken file) answer → not answer ≡ false
+    → length file ≡ bytesTaken file
+told-whole file {answer} t same = t .yes-means (not-false answer same)
+
 module _ (file : List ℕ) {code : ℕ} (v : Verdict (headerLine file) code) where
   -- the header is refused
   pub frame-header : (code ≡ 0 → ⊥) → Verdict (frameLines file) code
   unfolding number frameLines
   frame-header some =
-      refused-first {n = 2} (up-to-or (up-to-when HEADER (lit≤ tt)) (up-to-when LENGTH (lit≤ tt))) (from-when PAD (lit≤ tt)) (omega (arith, some))
+      refused-first {n = 2} (up-to-or (up-to-when HEADER (lit≤ tt)) (up-to-when LENGTH (lit≤ tt))) (from-when PAD (lit≤ tt))
+      (omega (arith, some))
       (refused-first {n = 1} (up-to-when HEADER (lit≤ tt)) (from-when LENGTH (lit≤ tt)) (omega (arith, some)) v)
 
-  module _ (right : code ≡ 0) {taken : ℕ} (t : taken ≡ bytesTaken file) where
+  module _ (right : code ≡ 0) {answer : Bool} (t : Tells (length file ≡ bytesTaken file) answer) where
     header-right : Verdict (headerLine file) 0
     header-right = rw right at v
 
     -- the byte count is another
-    pub frame-length : (length file ≡ taken → ⊥) → Verdict (frameLines file) 2
+    pub frame-length : not answer ≡ true → Verdict (frameLines file) 2
     unfolding number frameLines
     frame-length other =
-        refused-first {n = 2} (up-to-or (up-to-when HEADER (lit≤ tt)) (up-to-when LENGTH (lit≤ tt))) (from-when PAD (lit≤ tt)) (lit≤ tt)
-        (refused-then header-right (line-hit LENGTH (inl (λ h. other (h ∙ sym t)))))
+        refused-first {n = 2} (up-to-or (up-to-when HEADER (lit≤ tt)) (up-to-when LENGTH (lit≤ tt))) (from-when PAD (lit≤ tt))
+        (lit≤ tt)
+        (refused-then header-right (line-hit LENGTH (inl (t .no-means (not-true answer other)))))
 
-    module _ (same : length file ≡ taken) where
-      pub frame-whole : length file ≡ bytesTaken file
-      frame-whole = same ∙ t
-
+    module _ (same : not answer ≡ false) where
       length-right : (length file ≢ bytesTaken file) ⊎ ((kindIn file ≡ curveKind) × (length file ≡ 1)) → ⊥
       unfolding bytesTaken
-      length-right (inl h) = h frame-whole
-      length-right (inr h) = omega (arith, h .1, same, t, more-than-one-byte (editionOf file) (profileOf file))
+      length-right (inl h) = h (told-whole file t same)
+      length-right (inr h) = omega (arith, h .1, told-whole file t same, more-than-one-byte (editionOf file) (profileOf file))
 
       module _ {bits : ℕ} (p : bits ≡ spelt (padding file)) where
         -- a padding bit is 1
@@ -163,4 +182,4 @@ module _ (file : List ℕ) {code : ℕ} (v : Verdict (headerLine file) code) whe
             refused-then (refused-then header-right (line-miss length-right))
             (line-miss (λ m. omega (arith, one-spelt m, p, none)))
 
-pub ruleset frames = (frame-header, frame-length, frame-whole, frame-pad, frame-right)
+pub ruleset frames = (frame-header, frame-length, told-whole, frame-pad, frame-right)

@@ -6,6 +6,7 @@ ghost use mathlib.Core.Path.{_≡_};
 ghost use lib.ListN.{length};
 ghost use Rattle.meaning.specs.Refusal.{Verdict};
 ghost use Rattle.meaning.specs.Profile.{spelt, padding, bytesTaken};
+ghost use Rattle.checks.specs.Contracts.{Tells};
 ghost use Rattle.profiles.specs.Contracts.{headerLine, frameLines};
 
 // HEADER, or 0.
@@ -28,6 +29,13 @@ fn header(file: &[u8]) -> u64
     limits::HEADER
 }
 
+// Whether the byte count is what kind and count require.
+fn is_whole(file: &[u8]) -> bool
+    ensures { λ r. ⌜ Tells (length (now (file .entry)) ≡ bytesTaken (now (file .entry))) r ⌝ }
+{
+    file.len() == crate::bytes_taken(file)
+}
+
 // The number that the padding bits spell.
 fn padding_in(file: &[u8]) -> u64
     requires { ⌜ length (now file) ≡ bytesTaken (now file) ⌝ }
@@ -48,7 +56,7 @@ pub(crate) fn refusal(file: &[u8]) -> u64
     if code != 0 {
         return code;
     }
-    if file.len() != crate::bytes_taken(file) {
+    if !is_whole(file) {
         return limits::LENGTH;
     }
     if padding_in(file) != 0 {

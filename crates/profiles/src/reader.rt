@@ -53,9 +53,9 @@ pub(crate) fn curve(file: &[u8], table: &mut [u64], at: usize, room: usize) -> P
     let count = crate::count_in(file);
     decode(file, count, &mut pairs);
     let end = 2 * count;
-    let code = checks::curve(&pairs[..end]);
-    if code != 0 {
-        return crate::refused(code);
+    let form = checks::curve(&pairs[..end]);
+    if form != 0 {
+        return crate::refused(form);
     }
     let answer = deliver::deliver(&pairs[..end], table, at, room);
     if answer.code != 0 {

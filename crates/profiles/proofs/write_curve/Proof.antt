@@ -7,9 +7,6 @@ use borrow.Author.Needs.{needs}
 use Rattle.profiles.proofs.write_curve.Statement.{statement}
 use Rattle.profiles.proofs.write_curve.Tie as tie
 
-slice-aggregate-hand-over : tie.Need-slice-aggregate-hand-over
-slice-aggregate-hand-over c = simp length-take (omega arith)
-
 pub write-curve-spec : {M : Type 1} → statement M
 write-curve-spec =
     tie.close
@@ -19,7 +16,7 @@ write-curve-spec =
     (λ c. search needs)
     (λ c κs. search (curve-writes, needs))
     (λ c. search (curve-writes, needs))
-    slice-aggregate-hand-over
+    (λ c. simp length-take (omega arith))
     (λ c κs. search needs)
     (λ c. search needs)
     (λ c. search (curve-writes, needs)))

@@ -7,9 +7,6 @@ use borrow.Author.Needs.{needs}
 use Rattle.profiles.proofs.write_server.Statement.{statement}
 use Rattle.profiles.proofs.write_server.Tie as tie
 
-slice-aggregate-hand-over : tie.Need-slice-aggregate-hand-over
-slice-aggregate-hand-over c = simp length-take (omega arith)
-
 pub write-server-spec : {M : Type 1} → statement M
 write-server-spec =
     tie.close
@@ -19,7 +16,7 @@ write-server-spec =
     (λ c. search needs)
     (λ c κs. search (server-writes, needs))
     (λ c. search needs)
-    slice-aggregate-hand-over
+    (λ c. simp length-take (omega arith))
     (λ c κs. search needs)
     (λ c. search needs)
     (λ c. search (server-writes, needs)))

@@ -13,6 +13,6 @@ refusal-spec =
     (λ c. search (frames, needs))
     (λ c κs. search needs)
     (λ c. search (frames, needs))
-    (λ c κs. search needs)
+    (λ c κs. search (frames, needs))
     (λ c. search (frames, needs))
     (λ c. search (frames, needs)))

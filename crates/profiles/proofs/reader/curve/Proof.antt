@@ -7,12 +7,6 @@ use borrow.Author.Needs.{needs}
 use Rattle.profiles.proofs.reader.curve.Statement.{statement}
 use Rattle.profiles.proofs.reader.curve.Tie as tie
 
-slice-aggregate-curve : tie.Need-slice-aggregate-curve
-slice-aggregate-curve c = simp length-take (omega arith)
-
-slice-aggregate-deliver : tie.Need-slice-aggregate-deliver
-slice-aggregate-deliver c = simp length-take (omega arith)
-
 pub curve-spec : {M : Type 1} → statement M
 curve-spec =
     tie.close
@@ -22,12 +16,12 @@ curve-spec =
     (λ c κs. search (curve-files, needs))
     (λ c. search (curve-files, needs))
     (λ c. search (curve-files, needs))
-    slice-aggregate-curve
+    (λ c. simp length-take (omega arith))
     (λ c κs. search needs)
     (λ c κs. search needs)
     (λ c. search (curve-files, needs))
     (λ c. search (curve-files, needs))
-    slice-aggregate-deliver
+    (λ c. simp length-take (omega arith))
     (λ c κs. search needs)
     (λ c κs. search needs)
     (λ c. search needs)
