@@ -3,3 +3,4 @@ pub mod Putting
 pub mod Spelling
 pub mod Due
 pub mod Hops
+pub mod Walking

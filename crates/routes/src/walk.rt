@@ -2,6 +2,8 @@
 use crate::reading;
 use crate::text;
 use checks::limits;
+use operations::hops;
+use operations::hops::Hop;
 use operations::ports;
 use servers::Server;
 use servers::ServerAnswer;
@@ -9,26 +11,9 @@ ghost use mathlib.Core.Path.{_≡_};
 ghost use Prim.Native.Nat.{_+_, _≤_};
 ghost use lib.ListN.{length, drop};
 ghost use Rattle.meaning.specs.Refusal.{over};
-ghost use Rattle.meaning.specs.ServerQuestions.{HopOutcome};
 ghost use Rattle.meaning.specs.Profile.{bytesTaken};
 ghost use Rattle.servers.specs.Contracts.{serverOf};
 ghost use Rattle.routes.specs.Contracts.{Due, JoinTo, HopAt, Starts, TextOf};
-
-// STUB
-pub struct Hop {
-    pub code: u64,
-    pub count: u64,
-    pub backlog: u64,
-    pub delay: u64,
-    pub server: Server,
-}
-
-// STUB
-fn pass(curve: &[u64], server: Server, out: &mut [u64]) -> Hop
-    ensures { λ r. ⌜ HopOutcome (now (curve .entry)) (serverOf server) (now (out .entry)) (now (out .exit)) (r .code) (r .count) (r .backlog) (r .delay) (serverOf (r .server)) ⌝ }
-{
-    Hop { code: 0, count: 0, backlog: 0, delay: 0, server }
-}
 
 // A route has at most 32 servers.
 const SERVERS: u64 = 32;
@@ -73,7 +58,7 @@ fn hop_at(input: &[u8], at: usize, curve: &[u64], next: &mut [u64]) -> Hop
             server,
         };
     }
-    pass(curve, server, next)
+    hops::pass(curve, server, next)
 }
 
 // The place behind the profile that stands at a place of the input, where there are the bytes that its header requires.

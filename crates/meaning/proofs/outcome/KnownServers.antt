@@ -12,7 +12,7 @@ use Rattle.meaning.specs.Refusal.{LARGE, number, Clear, accepted, curveL
 use Rattle.meaning.specs.ServerQuestions.{ServerInRange, portLines, passing, BacklogOutcome, DelayOutcome, HopOutcome, ServerOutcome, JoinOutcome, ResidualOutcome}
 use Rattle.meaning.specs.Computed.{isNormal}
 use Rattle.meaning.specs.Figures.{C, port}
-use Rattle.meaning.proofs.Lists.{curve-list, EachInRange}
+use Rattle.meaning.proofs.Lists.{curve-list, EachInRange, all-in-range}
 use Rattle.meaning.proofs.Figures.{table}
 use Rattle.meaning.proofs.curve.Neighbours.{neighbours-sound}
 use Rattle.meaning.proofs.server.Joining.{residual-unique}
@@ -43,7 +43,7 @@ module _
     -- no line holds,
     pub known-clear : Clear (portLines (listOf f) s)
     known-clear =
-        clear-or (clear-or (sound-clear f form fits) (λ r h. h .1 ranged)) (λ r h. omega (arith, rw curve-list at (h .1)))
+        clear-or (clear-or (sound-clear f form (all-in-range f (fits .1)) (fits .0)) (λ r h. h .1 ranged)) (λ r h. omega (arith, rw curve-list at (h .1)))
 
     module _ {g : List Bucket} (right : Behind f s g) (small : (length g ≤ 64) × EachInRange g) where
       behind-right : passing (listOf f) s .Answer g
@@ -175,7 +175,8 @@ p8-delay = only-delay (one-form 5 7) (omega arith) (omega arith) (lit≤ tt) (ta
 -- no line of the curve holds, and the last rate is above R
 steep-clear : Clear (curveLines (listOf (buckets (6 ∷ 7 ∷ []))))
 unfolding buckets
-steep-clear = sound-clear (buckets (6 ∷ 7 ∷ [])) (one-form 6 7) (omega arith)
+steep-clear =
+    sound-clear (buckets (6 ∷ 7 ∷ [])) (one-form 6 7) (all-in-range (buckets (6 ∷ 7 ∷ [])) (omega arith)) (lit≤ tt)
 
 steep : 5 < last (curveOf (listOf (buckets (6 ∷ 7 ∷ [])))) .rate
 unfolding buckets last
@@ -220,7 +221,7 @@ p10-outcome code left o =
     one-residual (listOf C) (port 6 1) o
     (ServerOutcome.answered
     (clear-or
-    (clear-or (clear-or (sound-clear C c-form c-fits) (λ r h. h .1 (omega arith))) (λ r h. omega (arith, rw curve-list at (h .1))))
+    (clear-or (clear-or (sound-clear C c-form (all-in-range C (c-fits .1)) (c-fits .0)) (λ r h. h .1 (omega arith))) (λ r h. omega (arith, rw curve-list at (h .1))))
     (λ r h. h .1 .2 (rw (residual-unique (h .1 .1) right) (omega arith))))
     refl
     right)
