@@ -7,12 +7,12 @@ use mathlib.Core.Option.{Option, none, some}
 use mathlib.Core.List.{List, [], _∷_, _++_}
 use Prim.Native.Nat.{ℕ, zero, suc, _+_, _*_, _≤_, _<_}
 use lib.ListN.{length, take, drop}
-use Rattle.meaning.specs.Curve.{listOf}
-use Rattle.meaning.specs.Server.{Server}
-use Rattle.meaning.specs.Refusal.{Clear, Verdict}
-use Rattle.meaning.specs.ServerQuestions.{HopOutcome}
+use Rattle.meaning.specs.Curve.{width, curveOf, listOf}
+use Rattle.meaning.specs.Server.{Server, Behind}
+use Rattle.meaning.specs.Refusal.{Clear, Verdict, curveLines}
+use Rattle.meaning.specs.ServerQuestions.{ServerInRange, HopOutcome}
 use Rattle.meaning.specs.Profile.{profileOf, bytesTaken, bucketsOf, serverIn}
-use Rattle.meaning.specs.Route.{firstFile, IsCurve, IsServer, dueLines, joinLines, joinedWith, Figures, digits, Route}
+use Rattle.meaning.specs.Route.{firstFile, IsCurve, IsServer, dueLines, joinLines, joinedWith, hopLines, Figures, FiguresOf, digits, Route}
 
 -- ---- Text, piece by piece.
 
@@ -78,19 +78,45 @@ pub record JoinTo (passed : ℕ) (before s : Server) (code : ℕ) (joined : Serv
   pub verdict : Verdict (joinLines (joinedAfter passed before) s) code
   pub is : code ≡ 0 → joined ≡ joinedWith (joinedAfter passed before) s
 
--- What comes of a server and a curve, f, at a hop: it is not read, or it is, and with 128 numbers lent the hop is asked.
+-- What comes of a server and the list f of a curve at a hop: it is not read, or it is, and with 128 numbers lent the hop is asked.
 pub data HopAt (rest f after : List ℕ) (code count backlog delay : ℕ) (s : Server) : Type 0 where
-  unread : Verdict (dueLines IsServer rest) code → code ≢ 0 → HopAt rest f after code count backlog delay s
+  unread :
+      Verdict (dueLines IsServer rest) code → code ≢ 0 → length after ≡ 128 → HopAt rest f after code count backlog delay s
   asked :
       (lent : List ℕ) → length lent ≡ 128 → Clear (dueLines IsServer rest)
       → HopOutcome f (serverIn (profileOf rest)) lent after code count backlog delay s
       → HopAt rest f after code count backlog delay s
 
--- The input begins with a curve, whose list is f, and which takes so many bytes.
-pub record Starts (input f : List ℕ) (start : ℕ) : Type 0 where
+-- A hop can be asked: the list f of a curve is not refused, and the servers joined so far are in range.
+pub record Stepping (f : List ℕ) (passed : ℕ) (before : Server) : Type 0 where
+  pub taken : Clear (curveLines f)
+  pub ranged : 1 ≤ passed → ServerInRange before
+
+-- A hop of the route: its code is that of its lines; where that is 0 the figures are those of the curve and the server, the list of
+-- the curve behind it stands at the start of `after`, and it is joined with those before it.
+pub record Stepped
+    (f : List ℕ) (passed : ℕ) (before : Server) (rest after : List ℕ) (code count backlog delay : ℕ) (joined : Server)
+    : Type 0
+  where
+    pub verdict : Verdict (hopLines (curveOf f) (joinedAfter passed before) rest) code
+    pub right : code ≡ 0 → FiguresOf (curveOf f) (serverIn (profileOf rest)) (figures backlog delay)
+    pub behind : code ≡ 0 → Behind (curveOf f) (serverIn (profileOf rest)) (curveOf (take (width * count) after))
+    pub list : code ≡ 0 → listOf (curveOf (take (width * count) after)) ≡ take (width * count) after
+    pub few : count ≤ 64
+    pub is-joined : code ≡ 0 → joined ≡ joinedWith (joinedAfter passed before) (serverIn (profileOf rest))
+    pub long : length after ≡ 128
+
+-- A place of the input behind the profile that stands at a place of it: where its bytes are there, behind them.
+pub record BehindProfile (input : List ℕ) (at behind : ℕ) : Type 0 where
+  pub is : at + bytesTaken (drop at input) ≤ length input → behind ≡ at + bytesTaken (drop at input)
+
+-- The input begins with a curve, whose list is f, and which takes so many bytes; the list stands at the start of 128 numbers too.
+pub record Starts (input f : List ℕ) (start : ℕ) (held : List ℕ) : Type 0 where
   pub clear : Clear (dueLines IsCurve input)
   pub list : f ≡ listOf (bucketsOf (profileOf input))
   pub taken : start ≡ bytesTaken input
+  pub holds : take (length f) held ≡ f
+  pub long : length held ≡ 128
 
 -- The text stands at the start of a list, up to a place. (The second line follows from the first: what lends that part asks for it.)
 pub record TextOf (input text : List ℕ) (end : ℕ) : Type 0 where

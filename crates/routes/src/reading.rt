@@ -8,7 +8,7 @@ ghost use Rattle.servers.specs.Contracts.{serverOf};
 ghost use Rattle.routes.specs.Contracts.{FirstEnd, CurveRead, ServerRead};
 
 // The end of the first profile of an input, as far as there are bytes.
-fn first_end(input: &[u8]) -> usize
+pub(crate) fn first_end(input: &[u8]) -> usize
     ensures { λ r. ⌜ FirstEnd (now (input .entry)) r ⌝ }
 {
     let taken = profiles::bytes_taken(input);

@@ -8,15 +8,23 @@ use operations::ports;
 use servers::Server;
 use servers::ServerAnswer;
 ghost use mathlib.Core.Path.{_≡_};
-ghost use Prim.Native.Nat.{_+_, _≤_};
+ghost use Prim.Native.Nat.{_≤_};
 ghost use lib.ListN.{length, drop};
-ghost use Rattle.meaning.specs.Refusal.{over};
-ghost use Rattle.meaning.specs.Profile.{bytesTaken};
 ghost use Rattle.servers.specs.Contracts.{serverOf};
-ghost use Rattle.routes.specs.Contracts.{Due, JoinTo, HopAt, Starts, TextOf};
+ghost use Rattle.routes.specs.Contracts.{Due, JoinTo, HopAt, Stepping, Stepped, BehindProfile, Starts, TextOf};
 
 // A route has at most 32 servers.
 const SERVERS: u64 = 32;
+
+// A hop of the route: a code, 0 for an answer; the number of buckets of the curve behind, backlog and delay; and the servers joined
+// so far.
+struct Step {
+    code: u64,
+    count: u64,
+    backlog: u64,
+    delay: u64,
+    joined: Server,
+}
 
 // Whether a server is due: none is passed yet, or bytes are left.
 fn is_due(passed: u64, at: usize, end: usize) -> bool
@@ -61,34 +69,62 @@ fn hop_at(input: &[u8], at: usize, curve: &[u64], next: &mut [u64]) -> Hop
     hops::pass(curve, server, next)
 }
 
-// The place behind the profile that stands at a place of the input, where there are the bytes that its header requires.
-fn behind_profile(input: &[u8], at: usize) -> usize
-    requires { ⌜ at + bytesTaken (drop at (now input)) ≤ length (now input) ⌝ }
-    ensures { λ r. ⌜ r ≡ at + bytesTaken (drop at (now (input .entry))) ⌝ }
+// The same, joined with the servers before it. The first of reading, passing and joining that is refused has the smallest number.
+fn step_at(
+    input: &[u8],
+    at: usize,
+    curve: &[u64],
+    next: &mut [u64],
+    passed: u64,
+    joined: Server,
+) -> Step
+    requires { ⌜ at ≤ length (now input) ⌝ }
+    requires { ⌜ Stepping (now curve) passed (serverOf joined) ⌝ }
+    requires { ⌜ length (now next) ≡ 128 ⌝ }
+    ensures { λ r. ⌜ Stepped (now (curve .entry)) passed (serverOf joined) (drop at (now (input .entry))) (now (next .exit)) (r .code) (r .count) (r .backlog) (r .delay) (serverOf (r .joined)) ⌝ }
 {
-    at + profiles::bytes_taken(&input[at..])
-}
-
-// Copies a list to the start of another.
-fn copy(list: &[u64], out: &mut [u64])
-    requires { ⌜ length (now list) ≤ length (now out) ⌝ }
-    ensures { λ _. ⌜ now (out .exit) ≡ over (now (list .entry)) (now (out .entry)) ⌝ }
-{
-    let mut i = 0;
-    while i < list.len() {
-        out[i] = list[i];
-        i += 1;
+    let hop = hop_at(input, at, curve, next);
+    if hop.code != 0 {
+        return Step {
+            code: hop.code,
+            count: 0,
+            backlog: 0,
+            delay: 0,
+            joined,
+        };
+    }
+    let all = join_to(passed, joined, hop.server);
+    let server = all.server;
+    Step {
+        code: all.code,
+        count: hop.count,
+        backlog: hop.backlog,
+        delay: hop.delay,
+        joined: server,
     }
 }
 
+// The place behind the profile that stands at a place of the input, as far as there are bytes.
+fn behind_profile(input: &[u8], at: usize) -> usize
+    requires { ⌜ at ≤ length (now input) ⌝ }
+    ensures { λ r. ⌜ BehindProfile (now (input .entry)) at r ⌝ }
+{
+    at + reading::first_end(&input[at..])
+}
+
 // Goes on from the curve, whose list is `first`, and which takes `start` bytes. Answers the end of the text.
-pub(crate) fn walk(input: &[u8], first: &[u64], start: usize, text: &mut [u8]) -> usize
-    requires { ⌜ Starts (now input) (now first) start ⌝ }
+pub(crate) fn walk(
+    input: &[u8],
+    first: &[u64],
+    start: usize,
+    held: [u64; 128],
+    text: &mut [u8],
+) -> usize
+    requires { ⌜ Starts (now input) (now first) start held ⌝ }
     requires { ⌜ length (now text) ≡ 1145 ⌝ }
     ensures { λ r. ⌜ TextOf (now (input .entry)) (now (text .exit)) r ⌝ }
 {
-    let mut curve = [0u64; 128];
-    copy(first, &mut curve);
+    let mut curve = held;
     let mut numbers = first.len();
     let mut next = [0u64; 128];
     let mut joined = Server {
@@ -102,20 +138,16 @@ pub(crate) fn walk(input: &[u8], first: &[u64], start: usize, text: &mut [u8]) -
         if passed == SERVERS {
             return text::put_refused(limits::COUNT, SERVERS + 2, text);
         }
-        let hop = hop_at(input, at, &curve[..numbers], &mut next);
+        let hop = step_at(input, at, &curve[..numbers], &mut next, passed, joined);
         if hop.code != 0 {
             return text::put_refused(hop.code, passed + 2, text);
-        }
-        let all = join_to(passed, joined, hop.server);
-        if all.code != 0 {
-            return text::put_refused(all.code, passed + 2, text);
         }
         end = text::put_hop(passed + 1, hop.backlog, hop.delay, text, end);
         passed += 1;
         at = behind_profile(input, at);
         curve = next;
         numbers = limits::BUCKET_NUMBERS * hop.count as usize;
-        joined = all.server;
+        joined = hop.joined;
     }
     let backlog = ports::backlog(first, joined);
     let delay = ports::delay(first, joined);

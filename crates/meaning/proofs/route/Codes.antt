@@ -26,7 +26,7 @@ use Rattle.meaning.proofs.profile.Decided.{file-decided, read-has-outco
 use Rattle.meaning.proofs.server.HopByHop.{behind-unique}
 use Rattle.meaning.proofs.route.BackToBack.{same-start}
 use Rattle.meaning.proofs.route.Line.{sofar-in-range}
-use Rattle.meaning.proofs.route.Winning.{server-file-decides, curve-file-decides, reading-decides, port-decides, join-decides, behind-decides, pass-decides}
+use Rattle.meaning.proofs.route.Winning.{server-file-decides, curve-file-decides, reading-decides, port-decides, join-decides, behind-decides}
 use Rattle.meaning.proofs.route.Steps.{Going, ServerDue, serverAt, going-stops, going-hop}
 
 -- ---- Reading.
@@ -173,18 +173,6 @@ module _
       behind-refused joins o room nonzero =
           going-stops go short due
           (behind-decides (curveOf f) joined (drop at input) read joins (rw (go .list-is) (roomy o room))) nonzero
-
-      -- the same whatever comes of joining
-      pub pass-refused :
-          {lent after : List ℕ} {code count : ℕ} → Outcome (passing f (serverAt input at)) lent after code count
-          → width * 64 ≤ length lent → code ≢ 0 → Route input (refusedText code (n + 2))
-      unfolding passing
-      pass-refused o room nonzero =
-          going-stops go short due
-          (pass-decides (curveOf f) joined (drop at input) read
-          (sofar-in-range (curveOf first) (go .hops) joined (curveOf f) (go .sofar))
-          (rw (go .list-is) (roomy o room)) nonzero)
-          nonzero
 
       -- All are answered: the way goes on behind the server.
       pub hop-answered :

@@ -4,29 +4,29 @@ use Rattle.routes.proofs.walk.behind_profile.Statement.{statement}
 use Rattle.routes.proofs.walk.behind_profile.Tie as tie
 use Rattle.routes.proofs.walk.behind_profile.Reads as reads
 use Rattle.routes.proofs.walk.behind_profile.Lts as lts
-use Rattle.profiles.proofs.bytes_taken.Reads as bytes-taken-reads
+use Rattle.routes.proofs.reading.first_end.Reads as first-end-reads
 
--- src/walk.rt:84:32
-sub-bytes-taken : tie.Need-sub-bytes-taken
-sub-bytes-taken c = search needs
+-- src/walk.rt:105:29
+sub-first-end : tie.Need-sub-first-end
+sub-first-end c = search needs
 
--- src/walk.rt:84:32
-part-bytes-taken-start : tie.Need-part-bytes-taken-start
-part-bytes-taken-start c = search needs
+-- src/walk.rt:105:29
+part-first-end-start : tie.Need-part-first-end-start
+part-first-end-start c = search needs
 
--- src/walk.rt:84:32
-part-bytes-taken-end : tie.Need-part-bytes-taken-end
-part-bytes-taken-end c = search needs
+-- src/walk.rt:105:29
+part-first-end-end : tie.Need-part-first-end-end
+part-first-end-end c = search needs
 
--- src/walk.rt:84:10
-bytes-taken-requires : tie.Need-bytes-taken-requires
-bytes-taken-requires c κs = search needs
+-- src/walk.rt:105:10
+first-end-requires : tie.Need-first-end-requires
+first-end-requires c κs = search needs
 
--- src/walk.rt:84:5
+-- src/walk.rt:105:5
 add-result : tie.Need-add-result
-add-result c = search (behind-laws, needs)
+add-result c = search needs
 
--- src/walk.rt:80:1
+-- src/walk.rt:101:1
 returns : tie.Need-returns
 returns c = search (behind-laws, needs)
 
@@ -34,9 +34,9 @@ pub behind-profile-spec : {M : Type 1} → statement M
 behind-profile-spec =
     tie.close
     (tie.spec
-    sub-bytes-taken
-    part-bytes-taken-start
-    part-bytes-taken-end
-    bytes-taken-requires
+    sub-first-end
+    part-first-end-start
+    part-first-end-end
+    first-end-requires
     add-result
     returns)
