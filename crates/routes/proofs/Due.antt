@@ -7,9 +7,10 @@ use Prim.Native.Nat.{ℕ, _*_, _≤_, _<_}
 use native.Mathlib.Decide.{ℕ-discrete}
 use native.Mathlib.Nat.{le-of-lt}
 use native.Mathlib.Omega.{arith}
-use lib.Dec.{lit≤}
 use lib.ListN.{length, take}
 use lib.Seq.{take-all, length-take-le}
+use mir.Syntax.{w64}
+use mir.Val.{Fits}
 use Rattle.meaning.specs.Server.{Server}
 use Rattle.meaning.specs.Refusal.{Outcome, Question}
 use Rattle.meaning.specs.Profile.{kindIn, bytesTaken, Reading, ReadOutcome}
@@ -58,7 +59,8 @@ module _ {input : List ℕ} {k : ℕ} (kind : k ≡ kindIn input) where
       record {
         verdict = no-curve-there input (λ e. other (kind ∙ e));
         told = λ e. absurd (omega arith);
-        few = lit≤ tt;
+        inside = omega arith;
+        lent = refl;
         long = long;
       }
 
@@ -67,15 +69,24 @@ module _ {input : List ℕ} {k : ℕ} (kind : k ≡ kindIn input) where
     pub curve-read :
         length before ≡ 128 → k ≡ 1
         → ReadOutcome (take end input) before after (record { code = code; kind = told; count = count; server = s })
-        → CurveRead input after code count
+        → CurveRead input after code (2 * count)
     curve-read long curve o =
         let file = rw (first .is) at o in
+        let after-long : length after ≡ 128 = outcome-length (o .list) ∙ long in
+        let few : 2 * count ≤ length after = omega (arith, count-few (o .list)) in
         record {
           verdict = curve-code input file (sym kind ∙ curve) (omega arith);
           told = λ e. curve-told input file e;
-          few = count-few (o .list);
-          long = outcome-length (o .list) ∙ long;
+          inside = few;
+          lent = sym (length-take-le (2 * count) after few);
+          long = after-long;
         }
+
+    -- its numbers can be counted
+    pub curve-numbers :
+        ReadOutcome (take end input) before after (record { code = code; kind = told; count = count; server = s })
+        → Fits w64 (2 * count)
+    curve-numbers o = record { fits = omega (arith, count-few (o .list)) }
 
     -- ---- A server.
 
@@ -95,4 +106,4 @@ module _ {input : List ℕ} {k : ℕ} (kind : k ≡ kindIn input) where
   pub server-missing : {code : ℕ} {s : Server} → k ≡ 1 → code ≡ 1 → ServerRead input code s
   server-missing curve is = rw is (record { verdict = curve-there input (sym kind ∙ curve); told = λ e. absurd (omega arith) })
 
-pub ruleset reading-due = (curve-missing, curve-read, server-read, server-missing)
+pub ruleset reading-due = (curve-missing, curve-read, curve-numbers, server-read, server-missing)

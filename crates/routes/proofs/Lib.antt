@@ -4,3 +4,4 @@ pub mod Spelling
 pub mod Due
 pub mod Hops
 pub mod Walking
+pub mod Reporting

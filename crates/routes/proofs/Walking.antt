@@ -38,11 +38,11 @@ module _
     whole = omega (arith, route-length route, length-append (take at text) line, length-take-le at text (omega arith))
 
     -- there is room for it,
-    line-room : Room line text at
+    pub line-room : Room line text at
     line-room = record { fits = omega (arith, whole) }
 
     -- and where it is put the text ends
-    line-ends : {after : List ℕ} {end : ℕ} → Put text at line after end → TextOf input after end
+    pub line-ends : {after : List ℕ} {end : ℕ} → Put text at line after end → TextOf input after end
     line-ends {after} {end} put =
         let all : end ≤ length after = omega (arith, put .place, put .long, whole) in
         record { inside = all; lent = sym (length-take-le end after all); is = rw (put .is) route }

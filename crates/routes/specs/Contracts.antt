@@ -50,10 +50,11 @@ pub record FirstEnd (input : List ℕ) (end : ℕ) : Type 0 where
   pub is : take end input ≡ firstFile input
 
 -- What stands at the start of an input, where the curve is due, with its list from the start of a list of 128 numbers.
-pub record CurveRead (input list : List ℕ) (code count : ℕ) : Type 0 where
+pub record CurveRead (input list : List ℕ) (code numbers : ℕ) : Type 0 where
   pub verdict : Verdict (dueLines IsCurve input) code
-  pub told : code ≡ 0 → take (2 * count) list ≡ listOf (bucketsOf (profileOf input))
-  pub few : count ≤ 64
+  pub told : code ≡ 0 → take numbers list ≡ listOf (bucketsOf (profileOf input))
+  pub inside : numbers ≤ length list
+  pub lent : numbers ≡ length (take numbers list)
   pub long : length list ≡ 128
 
 -- The same where a server is due.

@@ -1,11 +1,16 @@
 // Profiles back to back: what stands at a place of the input, read as the curve or the server that is due there.
 use checks::limits;
 use servers::ServerAnswer;
-use settle::Answer;
 ghost use mathlib.Core.Path.{_≡_};
 ghost use lib.ListN.{length};
 ghost use Rattle.servers.specs.Contracts.{serverOf};
 ghost use Rattle.routes.specs.Contracts.{FirstEnd, CurveRead, ServerRead};
+
+// The first curve: a code, 0 for one that is read, and how many numbers its list has, 0 for a refusal.
+pub(crate) struct First {
+    pub code: u64,
+    pub numbers: usize,
+}
 
 // The end of the first profile of an input, as far as there are bytes.
 pub(crate) fn first_end(input: &[u8]) -> usize
@@ -19,21 +24,21 @@ pub(crate) fn first_end(input: &[u8]) -> usize
 }
 
 // The curve that an input begins with, from the start of a list with room for 64 buckets.
-pub(crate) fn read_curve(input: &[u8], out: &mut [u64]) -> Answer
+pub(crate) fn read_curve(input: &[u8], out: &mut [u64]) -> First
     requires { ⌜ length (now out) ≡ 128 ⌝ }
-    ensures { λ r. ⌜ CurveRead (now (input .entry)) (now (out .exit)) (r .code) (r .count) ⌝ }
+    ensures { λ r. ⌜ CurveRead (now (input .entry)) (now (out .exit)) (r .code) (r .numbers) ⌝ }
 {
     if profiles::kind_in(input) != profiles::CURVE {
-        return Answer {
+        return First {
             code: limits::HEADER,
-            count: 0,
+            numbers: 0,
         };
     }
     let end = first_end(input);
     let read = profiles::read(&input[..end], out);
-    Answer {
+    First {
         code: read.code,
-        count: read.count,
+        numbers: limits::BUCKET_NUMBERS * read.count as usize,
     }
 }
 

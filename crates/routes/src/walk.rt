@@ -117,14 +117,13 @@ pub(crate) fn walk(
     input: &[u8],
     first: &[u64],
     start: usize,
-    held: [u64; 128],
+    mut curve: [u64; 128],
     text: &mut [u8],
 ) -> usize
-    requires { ⌜ Starts (now input) (now first) start held ⌝ }
+    requires { ⌜ Starts (now input) (now first) start curve ⌝ }
     requires { ⌜ length (now text) ≡ 1145 ⌝ }
     ensures { λ r. ⌜ TextOf (now (input .entry)) (now (text .exit)) r ⌝ }
 {
-    let mut curve = held;
     let mut numbers = first.len();
     let mut next = [0u64; 128];
     let mut joined = Server {

@@ -1,4 +1,4 @@
--- `read_curve` reads the curve that an input begins with.
+-- `read_curve` reads the curve that an input begins with, and counts the numbers of its list.
 -- Assumes nothing.
 use Rattle.routes.proofs.Due.{reading-due}
 use borrow.Author.Needs.{needs}
@@ -14,5 +14,6 @@ read-curve-spec =
     (λ c κs. search needs)
     (λ c. search needs)
     (λ c κs. search needs)
+    (λ c. search (reading-due, needs))
     (λ c. search needs)
     (λ c. search (reading-due, needs)))
