@@ -9,6 +9,7 @@ ghost use Rattle.meaning.specs.Refusal.{Outcome};
 ghost use Rattle.meaning.specs.CurveQuestions.{normalising, lowering, summing, shaping, ValueOutcome};
 ghost use Rattle.meaning.specs.ServerQuestions.{JoinOutcome, passing, BacklogOutcome, DelayOutcome, ResidualOutcome};
 ghost use Rattle.meaning.specs.Profile.{ReadOutcome, WriteCurveOutcome, WriteServerOutcome};
+ghost use Rattle.meaning.specs.Route.{RouteOutcome};
 ghost use Rattle.duchrelin.specs.Contracts.{port, serverIn, readingIn};
 
 // A code, 0 for an answer, and the number of buckets, 0 for a refusal.
@@ -116,12 +117,7 @@ pub extern "C" fn duchrelin_shape(
 
 // The server that joins the next one.
 #[no_mangle]
-pub extern "C" fn duchrelin_join(
-    rate: u64,
-    latency: u64,
-    next_rate: u64,
-    next_latency: u64,
-) -> duchrelin_server
+pub extern "C" fn duchrelin_join(rate: u64, latency: u64, next_rate: u64, next_latency: u64) -> duchrelin_server
     ensures { λ r. ⌜ JoinOutcome (port rate latency) (port «next_rate» «next_latency») (r .code) (serverIn r) ⌝ }
 {
     let first = Server { rate, latency };
@@ -139,12 +135,7 @@ pub extern "C" fn duchrelin_join(
 
 // The curve behind a server.
 #[no_mangle]
-pub extern "C" fn duchrelin_behind(
-    curve: &[u64],
-    rate: u64,
-    latency: u64,
-    out: &mut [u64],
-) -> duchrelin_answer
+pub extern "C" fn duchrelin_behind(curve: &[u64], rate: u64, latency: u64, out: &mut [u64]) -> duchrelin_answer
     ensures { λ r. ⌜ Outcome (passing (now (curve .entry)) (port rate latency)) (now (out .entry)) (now (out .exit)) (r .code) (r .count) ⌝ }
 {
     let answer = hops::behind(curve, Server { rate, latency }, out);
@@ -222,14 +213,22 @@ pub extern "C" fn duchrelin_write_curve(curve: &[u64], buffer: &mut [u8]) -> duc
 
 // A server as a file.
 #[no_mangle]
-pub extern "C" fn duchrelin_write_server(
-    rate: u64,
-    latency: u64,
-    buffer: &mut [u8],
-) -> duchrelin_written
+pub extern "C" fn duchrelin_write_server(rate: u64, latency: u64, buffer: &mut [u8]) -> duchrelin_written
     ensures { λ r. ⌜ WriteServerOutcome (port rate latency) (now (buffer .entry)) (now (buffer .exit)) (r .code) (r .bytes) ⌝ }
 {
     let answer = profiles::write_server(Server { rate, latency }, buffer);
+    duchrelin_written {
+        code: answer.code,
+        bytes: answer.bytes,
+    }
+}
+
+// The report of a route, as text.
+#[no_mangle]
+pub extern "C" fn duchrelin_route(input: &[u8], text: &mut [u8]) -> duchrelin_written
+    ensures { λ r. ⌜ RouteOutcome (now (input .entry)) (now (text .entry)) (now (text .exit)) (r .code) (r .bytes) ⌝ }
+{
+    let answer = routes::route(input, text);
     duchrelin_written {
         code: answer.code,
         bytes: answer.bytes,

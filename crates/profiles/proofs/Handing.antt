@@ -62,7 +62,7 @@ module _ (ask : BytesQuestion) {bytes : List ℕ} (clear : Clear (ask .operands)
   back-lines r (inr h) = inr (h .0, (bytes, refl, rw (one (h .1 .0) bytes (h .1 .1) right) at (h .1 .2)))
 
   -- what comes of handing them over comes of it
-  handed-answer :
+  pub handed-answer :
       {before after : List ℕ} {code count : ℕ} → BytesOutcome (handing bytes) before after code count → BytesOutcome ask before after code count
   unfolding handing
   handed-answer (BytesOutcome.refused v) =

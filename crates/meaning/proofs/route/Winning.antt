@@ -191,3 +191,26 @@ module _ (f : List Bucket) (joined : Option Server) (rest : List ℕ) where
             (from-or (from-or (λ line h. absurd (read line h)) (λ line h. w .smallest line (inl h)))
             (λ line h. absurd (joins line h)))
             (λ line h. w .smallest line (inr h))
+
+    -- so the first of these that holds is the smallest number, whatever comes of joining
+    pub pass-decides :
+        {code : ℕ} → JoinedInRange joined → Verdict (portLines (listOf f) s or behindLarge f s) code → code ≢ 0
+        → Verdict (hopLines f joined rest) code
+    unfolding number
+    pass-decides before (accepted clear e) nonzero = absurd (nonzero e)
+    pass-decides before (rejected r w e) nonzero = rejected r (record { holds = place (w .holds); smallest = smallest }) e
+      where
+        place : (portLines (listOf f) s or behindLarge f s) r → hopLines f joined rest r
+        place (inl h) = inl (inl (inr h))
+        place (inr h) = inr h
+
+        low : (portLines (listOf f) s or behindLarge f s) r → number r ≤ 9
+        low (inl h) = le-trans (port-up-to (listOf f) s r h) (lit≤ tt)
+        low (inr h) = up-to-when LARGE (lit≤ tt) r h
+
+        smallest : From (number r) (hopLines f joined rest)
+        smallest =
+            from-or
+            (from-or (from-or (λ line h. absurd (read line h)) (λ line h. w .smallest line (inl h)))
+            (λ line h. le-trans (low (w .holds)) (join-large joined s before (due-in-range rest read) line h)))
+            (λ line h. w .smallest line (inr h))
