@@ -117,7 +117,12 @@ pub extern "C" fn duchrelin_shape(
 
 // The server that joins the next one.
 #[no_mangle]
-pub extern "C" fn duchrelin_join(rate: u64, latency: u64, next_rate: u64, next_latency: u64) -> duchrelin_server
+pub extern "C" fn duchrelin_join(
+    rate: u64,
+    latency: u64,
+    next_rate: u64,
+    next_latency: u64,
+) -> duchrelin_server
     ensures { λ r. ⌜ JoinOutcome (port rate latency) (port «next_rate» «next_latency») (r .code) (serverIn r) ⌝ }
 {
     let first = Server { rate, latency };
@@ -135,7 +140,12 @@ pub extern "C" fn duchrelin_join(rate: u64, latency: u64, next_rate: u64, next_l
 
 // The curve behind a server.
 #[no_mangle]
-pub extern "C" fn duchrelin_behind(curve: &[u64], rate: u64, latency: u64, out: &mut [u64]) -> duchrelin_answer
+pub extern "C" fn duchrelin_behind(
+    curve: &[u64],
+    rate: u64,
+    latency: u64,
+    out: &mut [u64],
+) -> duchrelin_answer
     ensures { λ r. ⌜ Outcome (passing (now (curve .entry)) (port rate latency)) (now (out .entry)) (now (out .exit)) (r .code) (r .count) ⌝ }
 {
     let answer = hops::behind(curve, Server { rate, latency }, out);
@@ -213,7 +223,11 @@ pub extern "C" fn duchrelin_write_curve(curve: &[u64], buffer: &mut [u8]) -> duc
 
 // A server as a file.
 #[no_mangle]
-pub extern "C" fn duchrelin_write_server(rate: u64, latency: u64, buffer: &mut [u8]) -> duchrelin_written
+pub extern "C" fn duchrelin_write_server(
+    rate: u64,
+    latency: u64,
+    buffer: &mut [u8],
+) -> duchrelin_written
     ensures { λ r. ⌜ WriteServerOutcome (port rate latency) (now (buffer .entry)) (now (buffer .exit)) (r .code) (r .bytes) ⌝ }
 {
     let answer = profiles::write_server(Server { rate, latency }, buffer);

@@ -206,3 +206,9 @@ pub writes-no-bytes :
     → BytesOutcome ask before before 0 count → ⊥
 writes-no-bytes {bytes = bytes} {before = before} known other o =
     other (ap (take (length bytes)) (only-filled known o .after-same) ∙ over-start bytes before)
+
+-- no more bytes are told than the buffer has
+pub count-within :
+    {ask : BytesQuestion} {before after : List ℕ} {code count : ℕ} → BytesOutcome ask before after code count → count ≤ length before
+count-within (BytesOutcome.refused v) = omega (arith, v .figure-is)
+count-within (BytesOutcome.filled v) = read-filled v .room
