@@ -22,7 +22,7 @@
  * 0, and no list or buffer has changed.
  *
  * Every call ends. None allocates, keeps anything between calls or calls the system, so calls on separate lists may run at the
- * same time. duchrelin_sum takes about 66 KiB of stack, each other function less than 4 KiB.
+ * same time. duchrelin_sum takes about 66 KiB of stack, duchrelin_route less than 8 KiB, each other function less than 4 KiB.
  *
  * duchrelin_words.h has each code in words. examples/header.c runs the examples that stand below.
  */
