@@ -122,7 +122,7 @@ duchrelin_figure duchrelin_value(const uint64_t *curve, size_t curve_numbers, ui
 duchrelin_answer duchrelin_lower(const uint64_t *f, size_t f_numbers, const uint64_t *g, size_t g_numbers,
                                  uint64_t *out, size_t out_numbers);
 
-/* The two curves added: normal form of all buckets (r + r', b + b'), one from each.
+/* The two curves added: every bucket of f added to every bucket of g, in normal form.
  * Example: {10,2, 3,20} and {4,0, 2,2} give count 3 and {14,2, 12,4, 5,22}. */
 duchrelin_answer duchrelin_sum(const uint64_t *f, size_t f_numbers, const uint64_t *g, size_t g_numbers,
                                uint64_t *out, size_t out_numbers);

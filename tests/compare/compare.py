@@ -183,7 +183,7 @@ def references(tally):
         lambda curve, server: servers.delay(curve, server) == servers.delay_one_by_one(curve, server))
 
     def behind_by_ticks(curve, server):
-        """At every whole tick the greatest over u of value(t + u) minus what is served by u."""
+        """Tick by tick, the greatest gap of what comes u ticks later over what is served by u."""
         after = curves.normal_form(servers.behind_raw(curve, server))
         end = 40 + server.latency
         greatest = lambda t: max(curves.value(curve, t + u) - servers.served(server, u) for u in range(end))

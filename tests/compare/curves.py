@@ -1,7 +1,7 @@
 """The operations on curves by their definitions, written from the rules alone, with exact fractions.
 
-Nothing here follows how the library works: a bucket is useful if there is a positive time at which it lies strictly below every other
-bucket, and the times at which it lies below another are an open interval of fractions.
+Nothing here follows how the library works: a bucket is useful if it alone is lowest at some positive time, and the times at which it
+lies below another are an open interval of fractions.
 """
 
 from fractions import Fraction

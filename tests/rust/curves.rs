@@ -1,6 +1,6 @@
-//! The reference for curves. It sees a bucket as the point (rate, burst) of a plane. A bucket has a
-//! positive time at which it lies strictly below every other one exactly if its point is a corner of
-//! the lower left hull of all points. So normal form is a walk over the sorted points that drops what
+//! The reference for curves. It sees a bucket as the point (rate, burst) of a plane. A bucket is
+//! needed, being the only lowest one at some positive time, exactly if its point is a corner of the
+//! lower left hull of all points. So normal form is a walk over the sorted points that drops what
 //! is no corner, and the sum of two curves is the hull that has the edges of both, sorted by slope.
 
 use super::rules::*;

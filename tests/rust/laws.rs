@@ -35,7 +35,7 @@ const SUM_VALUE: &str = "law: the value of sum is the sum of values";
 const SUM_OVER_LOWER: &str = "law: sum over lower";
 const JOIN_TURNED: &str = "law: join the other way round";
 const JOIN_GROUPED: &str = "law: join in another grouping";
-const BEHIND_GREATEST: &str = "law: behind at a tick is the greatest over u of value(t+u) minus what is served by u";
+const BEHIND_GREATEST: &str = "law: behind at a tick is the greatest gap of arrivals u ticks later over service by u";
 const BACKLOG_BEHIND: &str = "law: backlog is the value of behind at 0";
 const DELAY_ENOUGH: &str = "law: what has come by a tick is served when the delay is over";
 const DELAY_LEAST: &str = "law: one tick less than the delay is too short at some tick";
@@ -266,7 +266,7 @@ fn law_of_refusals(run: &mut Run, f: &[u64], server: Server) {
     run.law(REFUSED_ALIKE, good, &[f, &numbers(&[server])]);
 }
 
-/// Demand 3: take a curve and two servers where both hops and the joining of the servers are answered.
+/// Demand 3, for two hops in a row that are answered and whose servers join.
 fn laws_of_two_hops(run: &mut Run, curve: &[Bucket], first: Server, second: Server) {
     let f = curve_list(curve);
     let told = [&f[..], &numbers(&[first, second])];
@@ -288,8 +288,8 @@ fn laws_of_two_hops(run: &mut Run, curve: &[Bucket], first: Server, second: Serv
     run.law(DELAYS_ADDED, good, &told);
 }
 
-/// Past its latency L the server that is left never serves more by tick t than R(t-T) minus the cross
-/// curve's value at t-L.
+/// What the server that is left has served past its latency, with the cross curve's value since, is
+/// within what the whole server has served.
 fn law_of_residual(run: &mut Run, cross: &[Bucket], server: Server) {
     let list = curve_list(cross);
     let Some(left) = run.answer(&at_port(Residual, &list, server)).server() else { return };
@@ -315,7 +315,7 @@ fn laws_of_servers(run: &mut Run, curve: &[Bucket]) {
 
 // ---- profiles
 
-/// Given room, a profile written and read again gives the same curve or server.
+/// Write, then read: the curve or the server comes back.
 fn law_of_writing(run: &mut Run, curve: &[Bucket]) {
     let list = curve_list(curve);
     let file = run.answer(&questions::write_curve(&list)).bytes().to_vec();
@@ -329,7 +329,7 @@ fn law_of_writing(run: &mut Run, curve: &[Bucket]) {
     run.law(WRITTEN_READ, same, &[&numbers(&[server])]);
 }
 
-/// A profile accepted and written again gives the same bytes.
+/// Read, then write: the bytes come back.
 fn law_of_reading(run: &mut Run, file: &[u8]) {
     let read = run.answer(&questions::read(file));
     if !read.answered() {

@@ -1,4 +1,4 @@
--- All buckets (r + r', b + b'), one from each curve, written one row after the other.
+-- Every bucket of one curve added to every bucket of the other, one row after the other.
 -- Assumes nothing.
 use mathlib.Core.Path.{_≡_, refl, sym, _∙_, ap, subst}
 use mathlib.Core.List.{List, [], _++_, map, append-assoc, append-nil, List·Memᴰ·head, List·Memᴰ·tail}

@@ -1,11 +1,9 @@
 -- What is due at a place of the input, read from its first file.
 -- Assumes nothing.
-use mathlib.Core.Path.{_≡_, refl, sym, _∙_, ap, subst}
-use mathlib.Core.Logic.{_≢_}
+use mathlib.Core.Path.{_≡_, refl, sym, _∙_, ap}
 use mathlib.Core.List.{List}
 use Prim.Native.Nat.{ℕ, _*_, _≤_, _<_}
 use native.Mathlib.Decide.{ℕ-discrete}
-use native.Mathlib.Nat.{le-of-lt}
 use native.Mathlib.Omega.{arith}
 use lib.ListN.{length, take}
 use lib.Seq.{take-all, length-take-le}
@@ -13,7 +11,7 @@ use mir.Syntax.{w64}
 use mir.Val.{Fits}
 use Rattle.meaning.specs.Server.{Server}
 use Rattle.meaning.specs.Refusal.{Outcome, Question}
-use Rattle.meaning.specs.Profile.{kindIn, bytesTaken, Reading, ReadOutcome}
+use Rattle.meaning.specs.Profile.{kindIn, bytesTaken, ReadOutcome}
 use Rattle.meaning.specs.Route.{firstFile}
 use Rattle.meaning.proofs.outcome.Slips.{refusal-keeps}
 use Rattle.meaning.proofs.outcome.Answers.{fits-few, answered-list, outcome-length}

@@ -1,7 +1,7 @@
 -- What the steps of a walk say: whether a server is due, the servers joined, the hop at a server, and the place behind a profile.
 -- Assumes nothing.
 use mathlib.Core.Path.{_≡_, refl, _∙_, ap, subst}
-use mathlib.Core.Bool.{Bool, true, false}
+use mathlib.Core.Bool.{true, false}
 use mathlib.Core.Logic.{inl, inr, _≢_}
 use mathlib.Core.List.{List}
 use Prim.Native.Nat.{ℕ, zero, suc, _+_, _-_, _≤_}
@@ -72,6 +72,7 @@ module _
     (input : List ℕ) (at : ℕ) {told : ℕ} {s : Server}
     (read : ServerRead (take (length input - at) (drop at input)) told s)
   where
+    -- what is read there is read from what is left
     here : ServerRead (drop at input) told s
     here = rw (rest-is input at) at read
 
@@ -99,6 +100,7 @@ in-range zero h = tt
 in-range (suc passed) h = h (omega arith)
 
 module _ (rest : List ℕ) {f : List ℕ} (after : List ℕ) {passed : ℕ} {joined : Server} (w : Stepping f passed joined) where
+  -- the list of the curve comes out even
   listed : listOf (curveOf f) ≡ f
   listed = clear-list f (w .taken)
 
@@ -136,16 +138,20 @@ module _ (rest : List ℕ) {f : List ℕ} (after : List ℕ) {passed : ℕ} {joi
       (clear : Clear (dueLines IsServer rest))
       (o : HopOutcome f (serverIn (profileOf rest)) lent after 0 count backlog delay s) (j : JoinTo passed joined s join-code all)
     where
+      -- joining is asked of the server that stands there
       joins : JoinTo passed joined (serverIn (profileOf rest)) join-code all
       joins = rw (o .figures .server-is refl) at j
 
+      -- the curve behind it is answered as a list
       list : AnsweredList (passing f (serverIn (profileOf rest))) lent after count (readBack after count)
       list = answered-list (o .curve)
 
+      -- the curve passes it
       port : Clear (portLines (listOf (curveOf f)) (serverIn (profileOf rest)))
       unfolding passing
       port = rw listed (list .operands-clear)
 
+      -- and is behind it
       behind-there : Behind (curveOf f) (serverIn (profileOf rest)) (curveOf (readBack after count))
       unfolding passing
       behind-there = list .right
@@ -162,6 +168,7 @@ module _ (rest : List ℕ) {f : List ℕ} (after : List ℕ) {passed : ℕ} {joi
             | no e ↦ join-decides (curveOf f) (joinedAfter passed joined) rest clear port (joins .verdict) e
           ]
 
+      -- the hop is as joining decides
       answered-step : length lent ≡ 128 → Stepped f passed joined rest after join-code count backlog delay all
       answered-step long =
           record {
@@ -187,11 +194,7 @@ pub ruleset step-laws = (step-refused, step-joined)
 -- ---- The place behind a profile.
 
 module _ (input : List ℕ) (at : ℕ) {end : ℕ} (first : FirstEnd (take (length input - at) (drop at input)) end) where
-  -- it is a place of the input,
-  pub behind-fits : at ≤ length input → at + end ≤ length input
-  behind-fits inside = omega (arith, first .inside, ap length (rest-is input at), length-drop at input)
-
-  -- and where the bytes are there, the one behind them
+  -- where the bytes are there, the place is behind them
   pub behind-is : BehindProfile input at (at + end)
   behind-is = record { is = λ all. omega (arith, taken all) }
     where
@@ -201,5 +204,3 @@ module _ (input : List ℕ) (at : ℕ) {end : ℕ} (first : FirstEnd (take (leng
           here .lent
           ∙ ap length (here .is)
           ∙ first-length (drop at input) (omega (arith, length-drop at input))
-
-pub ruleset behind-laws = (behind-fits, behind-is)

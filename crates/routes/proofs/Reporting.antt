@@ -3,7 +3,6 @@
 use mathlib.Core.Path.{_≡_, sym, ap}
 use mathlib.Core.List.{List}
 use Prim.Native.Nat.{ℕ}
-use native.Mathlib.Omega.{arith}
 use lib.Dec.{lit≤}
 use lib.ListN.{length, take}
 use Rattle.meaning.specs.Refusal.{BytesOutcome}
@@ -22,13 +21,16 @@ use Rattle.routes.proofs.Walking.{line-room, line-ends}
 module _ {input list : List ℕ} {code numbers : ℕ} (w : CurveRead input list code numbers) where
   -- it is refused: its line is the text,
   module _ (nonzero : code ≡ 0 → ⊥) where
+    -- what the program prints,
     line : Route input (refusedText code 1)
     line = curve-refused input (w .verdict) nonzero
 
     module _ {text : List ℕ} (size : length text ≡ 1145) where
+      -- for which there is room,
       pub first-room : Room (refusedText code 1) text 0
       first-room = line-room text _ 0 size (lit≤ tt) line
 
+      -- and with which the text ends
       pub first-ends : {after : List ℕ} {end : ℕ} → Put text 0 (refusedText code 1) after end → TextOf input after end
       first-ends put = line-ends text _ 0 size (lit≤ tt) line put
 

@@ -6,7 +6,7 @@ use Prim.Native.Nat.{ℕ, zero, suc, _+_, _-_, _/_, _%_, _^_, _≤_, _<_}
 use native.Mathlib.Nat.{pow-succ', pow-le-pow-right, lt-of-lt-of-le}
 use native.Mathlib.Omega.{arith}
 use lib.Dec.{lit≤}
-use lib.ListN.{length, drop, set, length-set, length-drop}
+use lib.ListN.{length, drop, set, length-set}
 use lib.Seq.{drop-cons, drop-set-lt, getD-set-same, drop-length}
 use Rattle.meaning.specs.Route.{digits}
 use Rattle.meaning.proofs.route.Decimal.{digits-one, digits-step}
@@ -23,6 +23,7 @@ pub record Spelling (n : ℕ) (before : List ℕ) (left from : ℕ) (list : List
   pub small : left < 10 ^ more
   pub is : digits 20 n ≡ digits 20 left ++ drop from list
 
+-- none stands there yet
 pub spelling-start : {n : ℕ} (list : List ℕ) → n < 2 ^ 64 → length list ≡ 21 → Spelling n list n 21 list
 spelling-start {n} list h size =
     record {
@@ -65,14 +66,17 @@ module _ {n : ℕ} {before : List ℕ} {left from : ℕ} {list : List ℕ} (w : 
   pub spelling-space : (d : ℕ) → from - 1 - 1 < length (set list (from - 1) d)
   spelling-space d = omega (arith, length-set list (from - 1) d, spelling-inside)
 
+  -- what is left has at most 20 digits
   below : left < 10 ^ 20
   below =
       let few : w .more ≤ 20 = omega (arith, w .inside, w .from-is) in
       lt-of-lt-of-le (w .small) (pow-le-pow-right (lit≤ tt) few)
 
+  -- a digit that is set stands before those behind it
   digit-there : (d : ℕ) → drop (from - 1) (set list (from - 1) d) ≡ d ∷ drop from list
   digit-there d = set-before list from d (omega (arith, w .from-is)) (omega (arith, w .inside, w .size, w .long))
 
+  -- one digit more,
   pub spelling-step : {d : ℕ} → d ≡ 48 + left % 10 → 10 ≤ left → Spelling n before (left / 10) (from - 1) (set list (from - 1) d)
   spelling-step {d} e many =
       let room = room-left left (w .more) many (w .small) in
@@ -91,6 +95,7 @@ module _ {n : ℕ} {before : List ℕ} {left from : ℕ} {list : List ℕ} (w : 
             ∙ ap (λ (l : List ℕ). digits 20 (left / 10) ++ l) (rw (← e) (sym (digit-there d)));
       }
 
+  -- or the first, and the space before it
   pub spelling-end :
       {d : ℕ} → d ≡ 48 + left % 10 → left < 10 → Spelt n (from - 1 - 1) (set (set list (from - 1) d) (from - 1 - 1) 32)
   spelling-end {d} e small =

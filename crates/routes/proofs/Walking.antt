@@ -97,9 +97,11 @@ module _
     {input first before text : List ℕ} {end passed : ℕ} {joined : Server} {curve : List ℕ} {numbers : ℕ} {next : List ℕ} {at : ℕ}
     (w : Walking input first before text end passed joined curve numbers next at)
   where
+    -- the text is as long as it was
     size : length text ≡ 1145
     size = w .long ∙ w .room
 
+    -- where a server is passed, those joined are
     joined-some : (n : ℕ) → 1 ≤ n → joinedAfter n joined ≡ some joined
     unfolding joinedAfter
     joined-some zero h = absurd (omega arith)
@@ -113,6 +115,7 @@ module _
       -- ---- The end of the input.
 
       module _ (ended : due ≡ false) where
+        -- some server is passed
         passed-some : 1 ≤ passed
         passed-some = d .is-not ended .0
 
@@ -120,6 +123,7 @@ module _
             (code delay-code backlog delay : ℕ)
             (b : BacklogOutcome first joined code backlog) (l : DelayOutcome first joined delay-code delay)
           where
+            -- the line of the route is the rest of the text,
             ended-route : Route input (take end text ++ routeText (figures backlog delay))
             ended-route =
                 going-answered
@@ -127,9 +131,11 @@ module _
                 (joined-some passed passed-some) (w .going))
                 (d .is-not ended .1) (figures backlog delay) b l .2
 
+            -- there is room for it,
             pub route-line-room : Room (routeText (figures backlog delay)) text end
             route-line-room = line-room text _ end size (omega (arith, w .inside)) ended-route
 
+            -- and with it the text ends
             pub route-line-ends : {after : List ℕ} {place : ℕ} → Put text end (routeText (figures backlog delay)) after place → TextOf input after place
             route-line-ends put = line-ends text _ end size (omega (arith, w .inside)) ended-route put
 
@@ -137,6 +143,7 @@ module _
 
       module _ (more : due ≡ true) where
         module _ (all : passed ≡ 32) where
+          -- the refusal is the text,
           over-route : Route input (refusedText 5 34)
           over-route = going-over (w .going) all (left (d .is-due more))
             where
@@ -144,18 +151,22 @@ module _
               left (inl none-passed) = absurd (omega arith)
               left (inr h) = h
 
+          -- there is room for it,
           pub over-room : Room (refusedText 5 34) text 0
           over-room = line-room text _ 0 size (lit≤ tt) over-route
 
+          -- and with it the text ends
           pub over-ends : {after : List ℕ} {place : ℕ} → Put text 0 (refusedText 5 34) after place → TextOf input after place
           over-ends put = line-ends text _ 0 size (lit≤ tt) over-route put
 
         -- ---- A server that is refused.
 
         module _ (fewer : passed ≡ 32 → ⊥) where
+          -- fewer than 32 are passed,
           short : passed < 32
           short = omega (arith, fewer, w .going .few)
 
+          -- and another is due
           is-due : ServerDue input at (joinedAfter passed joined)
           unfolding joinedAfter
           is-due = by-cause (d .is-due more)
@@ -180,12 +191,15 @@ module _
               {after : List ℕ} {code count backlog delay : ℕ} {all : Server}
               (h : Stepped (take numbers curve) passed joined (drop at input) after code count backlog delay all)
             where
+              -- where it is refused, the refusal is the text,
               step-route : code ≢ 0 → Route input (refusedText code (passed + 2))
               step-route nonzero = going-stops (w .going) short is-due (h .verdict) nonzero
 
+              -- there is room for it,
               pub step-room : code ≢ 0 → Room (refusedText code (passed + 2)) text 0
               step-room nonzero = line-room text _ 0 size (lit≤ tt) (step-route nonzero)
 
+              -- and with it the text ends
               pub step-ends :
                   {put-text : List ℕ} {place : ℕ} → code ≢ 0 → Put text 0 (refusedText code (passed + 2)) put-text place
                   → TextOf input put-text place
@@ -194,6 +208,7 @@ module _
               -- ---- A hop.
 
               module _ (answered : code ≡ 0) where
+                -- the way goes on behind it,
                 next-going :
                     Going input first (take end text ++ hopText (passed + 1) (figures backlog delay)) (passed + 1)
                     (joinedAfter (passed + 1) all) (take (width * count) after) (at + bytesTaken (drop at input))
@@ -214,15 +229,19 @@ module _
                       length-take-le end text (omega (arith, size, w .inside)),
                     )
 
+                -- there is room for its line,
                 pub next-room : Room (hopText (passed + 1) (figures backlog delay)) text end
                 next-room = record { fits = omega (arith, line-fits, size) }
 
+                -- one server fewer may come,
                 pub next-less : 32 - (passed + 1) < 32 - passed
                 next-less = omega (arith, short)
 
+                -- the curve's numbers can be counted,
                 pub next-numbers : Fits w64 (2 * count)
                 next-numbers = record { fits = omega (arith, h .few) }
 
+                -- and all is known that was known before
                 pub next-walking :
                     {put-text : List ℕ} {put-end place : ℕ}
                     → Put text end (hopText (passed + 1) (figures backlog delay)) put-text put-end

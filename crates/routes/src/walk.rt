@@ -137,16 +137,16 @@ pub(crate) fn walk(
         if passed == SERVERS {
             return text::put_refused(limits::COUNT, SERVERS + 2, text);
         }
-        let hop = step_at(input, at, &curve[..numbers], &mut next, passed, joined);
-        if hop.code != 0 {
-            return text::put_refused(hop.code, passed + 2, text);
+        let step = step_at(input, at, &curve[..numbers], &mut next, passed, joined);
+        if step.code != 0 {
+            return text::put_refused(step.code, passed + 2, text);
         }
-        end = text::put_hop(passed + 1, hop.backlog, hop.delay, text, end);
+        end = text::put_hop(passed + 1, step.backlog, step.delay, text, end);
         passed += 1;
         at = behind_profile(input, at);
         curve = next;
-        numbers = limits::BUCKET_NUMBERS * hop.count as usize;
-        joined = hop.joined;
+        numbers = limits::BUCKET_NUMBERS * step.count as usize;
+        joined = step.joined;
     }
     let backlog = ports::backlog(first, joined);
     let delay = ports::delay(first, joined);

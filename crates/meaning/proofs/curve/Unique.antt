@@ -1,4 +1,4 @@
--- A curve has one normal form: two lists in normal form with the same value at every positive fraction are the same list.
+-- A curve has one normal form: lists in normal form whose values agree at all positive fractions do not differ.
 -- A bucket of the one is strictly lowest at some time, and so lowest at a time shortly before and at one shortly after. A bucket
 -- of the other that has the value in between is nowhere below the common value, so it has the same rate and the same burst.
 -- So the buckets of a normal form are among those of the raw list.
@@ -75,7 +75,7 @@ same-around k j n p q s hq e now later earlier =
     let fall : j .rate ≤ k .rate = omega (arith, bucket-earlier k n p q s e, bucket-earlier j n p q s e) in
     meet-same p q hq (le-antisymm rise fall) now
 
--- Two lists with the same value at every positive fraction.
+-- Two lists whose values agree at all positive fractions.
 module _ {f g : List Bucket} (same : (p q : ℕ) → 0 < p → 0 < q → valueAt f p q ≡ valueAt g p q) where
   -- what is lowest of the one list is not above any bucket of the other
   lowest-not-above :
@@ -134,7 +134,7 @@ module _ {f g : List Bucket} (same : (p q : ℕ) → 0 < p → 0 < q → valueAt
       let b = rates-below f in
       useful-shared m u (b .over + 1) (λ j i. omega (arith, b .above j i)) (value-reached g (u .p) (u .q) h)
 
--- two lists in normal form with the same value at every positive fraction are the same
+-- lists in normal form whose values agree at all positive fractions do not differ
 pub normal-unique :
     {f g : List Bucket} → NormalForm f → NormalForm g
     → ((p q : ℕ) → 0 < p → 0 < q → valueAt f p q ≡ valueAt g p q) → f ≡ g

@@ -1,6 +1,6 @@
 -- Demands 2 and 3 as theorems about the contracts over servers, in what a caller has in hand: the numbers lent, the codes and
 -- figures answered, and the lists afterwards. (Those over curves stand in Answers.) Each question leaves one outcome. What is
--- answered is what the min-plus definitions give at whole ticks, and an answered list is in normal form and taken wherever a
+-- answered is what the definitions ask for at whole ticks, and an answered list is in normal form and taken wherever a
 -- curve is. Two answered hops are one answered step through the joined server, either way round, and its delay is at most the
 -- two added. A last rate above the server's is 8.
 -- Assumes nothing.
@@ -176,8 +176,8 @@ module _ (f : List ℕ) (s : Server) {Broken : Type 0} (clear : Clear (curveLine
 
 -- ---- Demand 2: what is answered.
 
--- The curve behind: in normal form, taken wherever a curve is, and at every whole t its value is the greatest over whole u of
--- value(t+u) minus what is served by u.
+-- The curve behind: in normal form, taken wherever a curve is; and what it lets through by a tick t is the most that can be left over
+-- if the server has had u ticks and the traffic t more, whatever whole u is.
 pub record BehindRead (f : List ℕ) (s : Server) (g : List ℕ) : Type 0 where
   pub definition : Behind (curveOf f) s (curveOf g)
   pub normal-form : NormalForm (curveOf g)
@@ -189,8 +189,8 @@ pub record DelayRead (f : List ℕ) (s : Server) (d : ℕ) : Type 0 where
   pub suffices : (t : ℕ) → reads (curveOf f) t ≤ served s (t + d)
   pub no-less : (m : ℕ) → m < d → ((t : ℕ) → reads (curveOf f) t ≤ served s (t + m)) → ⊥
 
--- An answered residual: by its rule, and past its latency L it never serves more by tick t than R·(t-T) minus the cross curve's
--- value at t-L.
+-- An answered residual: by its rule; and what it has served by a tick past its latency, with what the cross traffic may have sent
+-- since, is within what the whole server has served.
 pub record ResidualRead (cross : List ℕ) (s left : Server) : Type 0 where
   pub definition : Residual (curveOf cross) s left
   pub in-range : ServerInRange left
@@ -286,7 +286,7 @@ pub hop-in-part :
     → PartOutcome (passing f s) at room before after 0 count → Hop f s (readBack (part at room after) count)
 hop-in-part f s o = record { before = _; after = _; count = _; answered = o .inside; list-is = refl }
 
--- A curve and two servers where both hops and the joining of the servers are answered.
+-- Two hops in a row, both answered, and the join of their servers, answered as well.
 pub record TwoHops (f : List ℕ) (s next joined : Server) (a g : List ℕ) : Type 0 where
   pub first : Hop f s a
   pub second : Hop a next g
@@ -301,8 +301,8 @@ pub record AnsweredWith (g : List ℕ) (n : ℕ) (before after : List ℕ) (code
 
 -- What then holds, n being the second hop's count.
 pub record OneStep (f : List ℕ) (s next joined : Server) (a g : List ℕ) (n : ℕ) : Type 0 where
-  -- The one step through the joined server, given room for its list, is answered too, and its curve is, bucket for bucket, the
-  -- hop-by-hop curve
+  -- In one step through the joined server the curve passes as well, if the output has room, and the list is that of the two hops,
+  -- number for number
   pub one-step-is-answered-too :
       {before after : List ℕ} {code count : ℕ}
       → Outcome (passing f joined) before after code count → length g ≤ length before → AnsweredWith g n before after code count
@@ -314,9 +314,9 @@ pub record OneStep (f : List ℕ) (s next joined : Server) (a g : List ℕ) (n :
   -- both being the curve of demand 2.
   pub curve-of-the-one-step : BehindRead f joined g
   pub curve-of-the-hops : BehindRead a next g
-  -- With the servers the other way round the list is the same, if those hops are answered.
+  -- Exchanging the servers changes nothing in the list, where the hops in that order are answered.
   pub other-way-round : {b h : List ℕ} → Hop f next b → Hop b s h → h ≡ g
-  -- The delay through the joined server is answered, and never more than the two hops' delays added.
+  -- The joined server's delay is answered and at most the sum of the delays at the hops.
   pub joined-delay-is-never-more :
       (code d code′ e code″ n : ℕ) → DelayOutcome f s code d → DelayOutcome a next code′ e → DelayOutcome f joined code″ n
       → (code″ ≡ 0) × (n ≤ d + e)
@@ -394,7 +394,7 @@ module _ {f : List ℕ} {s next joined : Server} {a g : List ℕ} (hops : TwoHop
       numbers : 2 * count ≡ length g
       numbers = omega (arith, same .figure-same, answered-length last-list)
 
-  -- the other way round the list is the same
+  -- exchanging the servers keeps the list
   order-same : {b h : List ℕ} → Hop f next b → Hop b s h → h ≡ g
   order-same {b} {h} x y = sym (hop-read y .numbers) ∙ ap listOf (sym curves) ∙ last-list .numbers
     where

@@ -43,7 +43,7 @@ pub p2-outcome : OnlyAnswer (normalising p2-raw) (listOf (buckets (4 ∷ 0 ∷ 2
 unfolding normal buckets
 p2-outcome = only-normalise p2-raw (omega arith) (omega arith)
 
--- P3, where (4, 2) is lowest at one half and at no whole tick,
+-- P3, whose (4, 2) is needed between ticks 0 and 1 only,
 abbrev pub p3-raw : List ℕ
 p3-raw = 10 ∷ 0 ∷ 4 ∷ 2 ∷ 0 ∷ 5 ∷ []
 

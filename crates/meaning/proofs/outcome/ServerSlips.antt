@@ -96,7 +96,7 @@ real-time-burst o =
 pub real-time-delay : DelayOutcome (listOf C) (port 6 1) 0 4 → ⊥
 real-time-delay o = omega (arith, p5-delay 0 4 o)
 
--- ---- The latency charged to a curve that carries nothing.
+-- ---- Traffic that never comes, and a latency for it.
 
 -- what carries nothing by tick 1 has delay 0, whatever the server
 pub latency-charged : (f : List ℕ) (s : Server) {d : ℕ} → reads (curveOf f) 1 ≡ 0 → DelayOutcome f s 0 d → d ≡ 0

@@ -1,5 +1,5 @@
 -- One line only, `refused C at K`: for each refusal of the route which inputs it is the only text of. Whatever stands behind the
--- profile that is refused, the line is the same: the earliest profile refused is the one named.
+-- profile that is refused, the line is the same, so it names the first profile that fails.
 -- Assumes nothing.
 use mathlib.Core.Path.{_≡_, refl, sym, _∙_, ap}
 use mathlib.Core.Logic.{_≢_}
@@ -96,7 +96,7 @@ module _
     {input : List ℕ} {first : List Bucket} {hops : List Figures} {joined : Option Server} {f : List Bucket} {rest : List ℕ}
     (here : Standing input first hops joined f rest)
   where
-    -- bytes after 32 servers are 5 at 34
+    -- whatever follows the 32nd server is refused with 5, as profile 34
     pub bytes-after-32 : length hops ≡ 32 → rest ≢ [] → OnlyText input (bytes "refused 5 at 34\n")
     unfolding refusedText numbers digits bytes
     bytes-after-32 all more = only-text (standing-over here all more)

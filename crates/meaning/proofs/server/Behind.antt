@@ -1,5 +1,5 @@
--- The curve behind a server and the backlog in it: at every whole tick t the curve behind has the greatest, over whole u, of
--- value(t+u) minus what is served by u; the backlog is that at tick 0; and the computed curve and number are they.
+-- The curve behind a server and the backlog in it. Behind, by tick t, is the greatest gap between what has come by t+u and what the
+-- server has done by u, for whole u; the backlog is that gap at tick 0; and the computed curve and number are they.
 -- Assumes nothing.
 use mathlib.Core.Path.{_≡_, refl, sym, _∙_, ap}
 use mathlib.Core.Logic.{inl, inr}
@@ -74,7 +74,7 @@ module _ (f : List Bucket) (s : RateLatency) (m : ℕ) (e : Excess f (s .rate) m
         | inr h ↦ record { at = s .latency; reached = cut-at-latency has (le-of-lt h); greatest = cut-over }
       ]
 
--- at every whole t the value behind is the greatest over whole u of value(t+u) minus what is served by u
+-- behind, by tick t, is the greatest gap between what has come by t+u and what the server has done by u, for whole u
 pub behind-greatest :
     {f g : List Bucket} {s : RateLatency} → 1 ≤ length f → Behind f s g → (t : ℕ)
     → GreatestGap (λ u. reads f (t + u)) (served s) (reads g t)

@@ -1,4 +1,4 @@
--- Backlog, delay and value have no upper limit of their own and fit 64 bits: how large they can be for a curve and a server in range.
+-- How large value, backlog and delay can be for a curve and a server in range: no 64-bit number is too small for one of them.
 -- Assumes nothing.
 use mathlib.Core.List.{List}
 use Prim.Native.Nat.{ℕ, _+_, _-_, _*_, _^_, _≤_, _<_}

@@ -1,6 +1,6 @@
 -- `behind_profile` finds the place behind a profile.
 -- Assumes nothing.
-use Rattle.routes.proofs.Hops.{behind-laws}
+use Rattle.routes.proofs.Hops.{behind-is}
 use borrow.Author.Needs.{needs}
 use Rattle.routes.proofs.walk.behind_profile.Statement.{statement}
 use Rattle.routes.proofs.walk.behind_profile.Tie as tie
@@ -14,4 +14,4 @@ behind-profile-spec =
     (λ c. search needs)
     (λ c κs. search needs)
     (λ c. search needs)
-    (λ c. search (behind-laws, needs)))
+    (λ c. search (behind-is, needs)))
