@@ -229,6 +229,59 @@ static uint64_t delay_of(const uint64_t *curve, size_t count, uint64_t rate, uin
     return latency + quotient_rounded_up(excess(curve, count, rate), rate);
 }
 
+/* A file, and the bit at which its next field begins. */
+struct bit_reader {
+    const uint8_t *file;
+    size_t at;
+};
+
+/* The number in the next field, from the bytes that hold it. */
+static uint64_t take_bits(struct bit_reader *reader, size_t width)
+{
+    size_t end = reader->at + width, byte = reader->at / 8;
+    uint64_t taken = 0;
+    for (; 8 * byte < end; byte++)
+        taken = taken << 8 | reader->file[byte];
+    reader->at = end;
+    return taken >> (8 * byte - end) & ((UINT64_C(1) << width) - 1);
+}
+
+static duchrelin_profile read_server(struct bit_reader reader)
+{
+    uint64_t rate = take_bits(&reader, RATE_BITS), latency = take_bits(&reader, RATE_BITS);
+    if (server_refusal(rate, latency) != 0)
+        return refused_profile(server_refusal(rate, latency));
+    return (duchrelin_profile){ .code = 0, .kind = DUCHRELIN_KIND_SERVER, .rate = rate, .latency = latency };
+}
+
+static duchrelin_profile read_curve(struct bit_reader reader, size_t bits, uint64_t *out, size_t out_numbers)
+{
+    uint64_t curve[CURVE_NUMBERS];
+    size_t count = take_bits(&reader, 6) + 1;
+    for (size_t i = 0; i < count; i++) {
+        curve[2 * i] = take_bits(&reader, RATE_BITS);
+        curve[2 * i + 1] = take_bits(&reader, BURST_BITS);
+    }
+    uint64_t code = take_bits(&reader, bits - reader.at) != 0 ? DUCHRELIN_PAD : curve_refusal(curve, 2 * count);
+    if (code != 0)
+        return refused_profile(code);
+    duchrelin_answer answer = placed(curve, count, out, out_numbers);
+    if (answer.code != 0)
+        return refused_profile(answer.code);
+    return (duchrelin_profile){ .code = 0, .kind = DUCHRELIN_KIND_CURVE, .count = count };
+}
+
+duchrelin_profile named_read(const uint8_t *file, size_t file_bytes, uint64_t *out, size_t out_numbers)
+{
+    uint64_t code = header_refusal(file, file_bytes);
+    if (code != 0)
+        return refused_profile(code);
+    if (file_bytes != bytes_due(file, file_bytes))
+        return refused_profile(DUCHRELIN_LENGTH);
+    struct bit_reader reader = { .file = file, .at = 8 };
+    return kind_in(file) == DUCHRELIN_KIND_SERVER ? read_server(reader) : read_curve(reader, 8 * file_bytes, out, out_numbers);
+}
+
 /* The curve of the hop at hand, and the servers up to it joined. */
 struct journey {
     uint64_t curve[CURVE_NUMBERS];
