@@ -8,7 +8,8 @@ use native.Mathlib.Numerals.{add-one}
 use native.Mathlib.Omega.{arith}
 use lib.ListN.{length, take, set, length-set, length-append}
 use lib.Seq.{take-all, take-suc-set}
-use lib.Pow.{pow-pos, pow-mono, pow-lt, pow-add, shl-lt, shr-lt, split}
+use lib.Dec.{lit≤}
+use lib.Pow.{pow-pos, pow-mono, pow-lt, pow-add, shl-lt, mod-pow-add}
 use mir.Syntax.{w8, w64}
 use mir.Val.{Fits}
 use Rattle.meaning.specs.Profile.{bitsOf, spelt, _bits_, packed, fileBits}
@@ -49,15 +50,14 @@ file-next l b =
 abbrev goal : List ℕ → ℕ → ℕ → ℕ → ℕ → List ℕ
 goal before at left width x = packedBits before at left ++ bitsOf width x
 
--- They stand in the bytes that are full, and in the rest.
-pub record Putting (before : List ℕ) (at left width x : ℕ) (bytes : List ℕ) (i pending rest : ℕ) : Type 0 where
+-- They stand in the bytes that are full, and in the low bits of the whole that are pending.
+pub record Putting (before : List ℕ) (at left width x : ℕ) (bytes : List ℕ) (whole i pending : ℕ) : Type 0 where
   pub fitting : Fitting before at left width x
   pub begun : at / 8 ≤ i
   pub place : 8 * i + pending ≡ at + width
   pub long : length bytes ≡ length before
-  pub rest-fits : rest < 2 ^ pending
-  pub whole : AreBytes (take (at / 8) before) → AreBytes (take i bytes)
-  pub is : fileBits (take i bytes) ++ bitsOf pending rest ≡ goal before at left width x
+  pub are-bytes : AreBytes (take (at / 8) before) → AreBytes (take i bytes)
+  pub is : fileBits (take i bytes) ++ bitsOf pending (whole % 2 ^ pending) ≡ goal before at left width x
 
 module _ {before : List ℕ} {at left width x : ℕ} (w : Fitting before at left width x) where
   -- what is left has at most seven bits
@@ -80,7 +80,7 @@ module _ {before : List ℕ} {at left width x : ℕ} (w : Fitting before at left
   put-fits = record { fits = rw shifted (lt-of-lt-of-le joined-fits (pow-mono {j = 64} (omega (arith, w .narrow)))) }
 
   -- none is written yet
-  pub put-start : Putting before at left width x before (at / 8) (at % 8 + width) (left * 2 ^ width % 2 ^ 64 + x)
+  pub put-start : Putting before at left width x before (left * 2 ^ width % 2 ^ 64 + x) (at / 8) (at % 8 + width)
   unfolding packedBits
   put-start =
       record {
@@ -88,95 +88,91 @@ module _ {before : List ℕ} {at left width x : ℕ} (w : Fitting before at left
         begun = omega arith;
         place = omega arith;
         long = refl;
-        rest-fits = rw shifted joined-fits;
-        whole = λ h. h;
+        are-bytes = λ h. h;
         is =
-            rw shifted
+            rw (shifted, mod-eq-of-lt joined-fits)
             (ap (λ (l : List ℕ). fileBits (take (at / 8) before) ++ l) (bits-join (at % 8) width left x (w .left-fits) (w .fits))
             ∙ sym (append-assoc (fileBits (take (at / 8) before)) (bitsOf (at % 8) left) (bitsOf width x)));
       }
 
 module _
-    {before : List ℕ} {at left width x : ℕ} {bytes : List ℕ} {i pending rest : ℕ}
-    (w : Putting before at left width x bytes i pending rest)
+    {before : List ℕ} {at left width x : ℕ} {bytes : List ℕ} {whole i pending : ℕ}
+    (w : Putting before at left width x bytes whole i pending)
   where
     module _ (more : 8 ≤ pending) where
-      -- the modulus is a power of two,
-      power : 1 * 2 ^ (pending - 8) % 2 ^ 64 ≡ 2 ^ (pending - 8)
-      power =
-          mod-eq-of-lt
-          (omega (arith, pow-lt {i = pending - 8} {j = 64} (omega (arith, w .fitting .narrow, w .place, w .begun))))
-          ∙ omega arith
+      -- the next byte of the whole
+      abbrev byte : ℕ
+      byte = whole / 2 ^ (pending - 8) % 256
 
-      -- the next byte stands on top of the rest
+      -- it is not shifted too far
       pub put-shift : pending - 8 < 64
       put-shift = omega (arith, w .fitting .narrow, w .place, w .begun)
 
-      -- there are eight bits or more
-      eight-more : pending ≡ 8 + (pending - 8)
-      eight-more = omega arith
-
-      -- and is a byte
-      top-fits : rest / 2 ^ (pending - 8) < 256
-      top-fits = shr-lt 8 (pending - 8) (rw eight-more at (w .rest-fits))
+      -- and is a byte,
+      byte-fits : byte < 256
+      byte-fits = mod-lt (whole / 2 ^ (pending - 8)) (lit≤ tt)
 
       -- so it fits one
-      pub put-byte-fits : Fits w8 (rest / 2 ^ (pending - 8))
-      put-byte-fits = record { fits = top-fits }
-
-      -- the modulus is not 0,
-      pub put-modulus : 0 < 1 * 2 ^ (pending - 8) % 2 ^ 64
-      put-modulus = rw power (pow-pos (pending - 8))
+      pub put-byte-fits : Fits w8 byte
+      put-byte-fits = record { fits = byte-fits }
 
       -- there is room for it
       pub put-inside : i < length bytes
       put-inside = omega (arith, w .fitting .inside, w .place, w .long)
 
       -- it is written
-      pub put-step :
-          Putting before at left width x (set bytes i (rest / 2 ^ (pending - 8))) (i + 1) (pending - 8)
-          (rest % (1 * 2 ^ (pending - 8) % 2 ^ 64))
+      pub put-step : Putting before at left width x (set bytes i byte) whole (i + 1) (pending - 8)
       put-step =
           record {
             fitting = w .fitting;
             begun = omega (arith, w .begun);
             place = omega (arith, w .place);
-            long = length-set bytes i (rest / 2 ^ (pending - 8)) ∙ w .long;
-            rest-fits = rw power (mod-lt rest (pow-pos (pending - 8)));
-            whole = λ h. rw longer (append-each {l = take i bytes} {r = _ ∷ []} (w .whole h) (λ y m. rw (List·Memᴰ·eq-of-singleton m) top-fits));
+            long = length-set bytes i byte ∙ w .long;
+            are-bytes = λ h. rw longer (append-each {l = take i bytes} {r = byte ∷ []} (w .are-bytes h) (λ y m. rw (List·Memᴰ·eq-of-singleton m) byte-fits));
             is =
-                rw (longer, power)
-                (ap (λ (l : List ℕ). l ++ bitsOf (pending - 8) (rest % 2 ^ (pending - 8))) (file-next (take i bytes) (rest / 2 ^ (pending - 8)))
-                ∙ append-assoc (fileBits (take i bytes)) (bitsOf 8 (rest / 2 ^ (pending - 8))) (bitsOf (pending - 8) (rest % 2 ^ (pending - 8)))
+                rw longer
+                (ap (λ (l : List ℕ). l ++ bitsOf (pending - 8) (whole % 2 ^ (pending - 8))) (file-next (take i bytes) byte)
+                ∙ append-assoc (fileBits (take i bytes)) (bitsOf 8 byte) (bitsOf (pending - 8) (whole % 2 ^ (pending - 8)))
                 ∙ ap (λ (l : List ℕ). fileBits (take i bytes) ++ l) (sym apart)
                 ∙ w .is);
           }
         where
-          longer : take (i + 1) (set bytes i (rest / 2 ^ (pending - 8))) ≡ take i bytes ++ rest / 2 ^ (pending - 8) ∷ []
-          longer = rw (add-one i) (take-suc-set bytes i (rest / 2 ^ (pending - 8)) put-inside)
+          longer : take (i + 1) (set bytes i byte) ≡ take i bytes ++ byte ∷ []
+          longer = rw (add-one i) (take-suc-set bytes i byte put-inside)
 
-          apart : bitsOf pending rest ≡ bitsOf 8 (rest / 2 ^ (pending - 8)) ++ bitsOf (pending - 8) (rest % 2 ^ (pending - 8))
+          eight-more : pending ≡ 8 + (pending - 8)
+          eight-more = omega arith
+
+          apart : bitsOf pending (whole % 2 ^ pending) ≡ bitsOf 8 byte ++ bitsOf (pending - 8) (whole % 2 ^ (pending - 8))
           apart =
-              ap (λ (n : ℕ). bitsOf n rest) eight-more
-              ∙ ap (bitsOf (8 + (pending - 8))) (sym (split rest (pending - 8)))
-              ∙ bits-join 8 (pending - 8) (rest / 2 ^ (pending - 8)) (rest % 2 ^ (pending - 8)) top-fits
-              (mod-lt rest (pow-pos (pending - 8)))
+              ap (λ (n : ℕ). bitsOf n (whole % 2 ^ n)) eight-more
+              ∙ ap (bitsOf (8 + (pending - 8))) (mod-pow-add whole 8 (pending - 8))
+              ∙ bits-join 8 (pending - 8) byte (whole % 2 ^ (pending - 8)) byte-fits (mod-lt whole (pow-pos (pending - 8)))
 
-    -- all that fills bytes is
-    pub put-end : pending < 8 → Appends before at left (bitsOf width x) bytes (at + width) rest
-    unfolding packedBits
-    put-end few =
-        record {
-          is = rw (full, part) (w .is);
-          rest-fits = rw part (w .rest-fits);
-          whole = rw full (w .whole);
-          long = w .long;
-        }
-      where
-        full : (at + width) / 8 ≡ i
-        full = omega (arith, w .place)
+    module _ (few : pending < 8) where
+      -- the modulus is a power of two,
+      power : 1 * 2 ^ pending % 2 ^ 64 ≡ 2 ^ pending
+      power = mod-eq-of-lt (omega (arith, pow-lt {i = pending} {j = 64} (omega arith))) ∙ omega arith
 
-        part : (at + width) % 8 ≡ pending
-        part = omega (arith, w .place)
+      -- and not 0
+      pub put-modulus : 0 < 1 * 2 ^ pending % 2 ^ 64
+      put-modulus = rw power (pow-pos pending)
+
+      -- all that fills bytes is written, and the rest is left
+      pub put-end : Appends before at left (bitsOf width x) bytes (at + width) (whole % (1 * 2 ^ pending % 2 ^ 64))
+      unfolding packedBits
+      put-end =
+          record {
+            is = rw (full, part, power) (w .is);
+            rest-fits = rw (part, power) (mod-lt whole (pow-pos pending));
+            whole = rw full (w .are-bytes);
+            long = w .long;
+          }
+        where
+          full : (at + width) / 8 ≡ i
+          full = omega (arith, w .place)
+
+          part : (at + width) % 8 ≡ pending
+          part = omega (arith, w .place)
 
 pub ruleset putting = (put-fits, put-start, put-shift, put-byte-fits, put-modulus, put-inside, put-step, put-end)

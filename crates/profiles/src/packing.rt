@@ -14,16 +14,15 @@ fn put(bytes: &mut [u8], at: usize, left: u64, width: usize, x: u64) -> u64
     requires { ⌜ Fitting (now bytes) at left width x ⌝ }
     ensures { λ r. ⌜ Appends (now (bytes .entry)) at left (bitsOf width x) (now (bytes .exit)) (at + width) r ⌝ }
 {
+    let whole = (left << width) + x;
     let mut i = at / 8;
     let mut pending = at % 8 + width;
-    let mut rest = (left << width) + x;
     while 8 <= pending {
         pending -= 8;
-        bytes[i] = (rest >> pending) as u8;
-        rest = rest % (1u64 << pending);
+        bytes[i] = ((whole >> pending) % 256) as u8;
         i += 1;
     }
-    rest
+    whole % (1u64 << pending)
 }
 
 // Packs two fields, the second behind the first.

@@ -1,5 +1,5 @@
--- `put` packs a field. The loop's invariant: the bits that are to be packed stand in the bytes that are full, and in the rest. The
--- measure is how many bits the rest has.
+-- `put` packs a field. The loop's invariant: the bits that are to be packed stand in the bytes that are full, and in the
+-- low bits of the whole that are pending. The measure is how many those are.
 -- Assumes nothing.
 use Rattle.profiles.proofs.Putting.{Putting, putting}
 use borrow.Author.Needs.{needs}
@@ -7,10 +7,10 @@ use Rattle.profiles.proofs.packing.put.Statement.{statement}
 use Rattle.profiles.proofs.packing.put.Tie as tie
 
 abbrev Inv-loop : tie.InvT-loop
-Inv-loop bytes₀ at left width x i₀ pending₀ rest₀ bytes i pending rest = Putting bytes₀ at left width x bytes i pending rest
+Inv-loop bytes₀ at left width x whole i₀ pending₀ bytes i pending = Putting bytes₀ at left width x bytes whole i pending
 
 abbrev μ-loop : tie.MeasureT-loop
-μ-loop bytes₀ at left width x i₀ pending₀ rest₀ bytes i pending rest = pending
+μ-loop bytes₀ at left width x whole i₀ pending₀ bytes i pending = pending
 
 pub put-spec : {M : Type 1} → statement M
 put-spec =
