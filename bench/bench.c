@@ -44,6 +44,11 @@ static void value(const struct library *l, const struct input *i, struct outcome
     keep_figure(o, l->value(i->f, i->f_numbers, i->tick));
 }
 
+static void burst(const struct library *l, const struct input *i, struct outcome *o)
+{
+    keep_figure(o, l->burst(i->f, i->f_numbers));
+}
+
 static void lower(const struct library *l, const struct input *i, struct outcome *o)
 {
     keep_answer(o, l->lower(i->f, i->f_numbers, i->g, i->g_numbers, o->list, CURVE_NUMBERS));
@@ -130,6 +135,9 @@ static const struct timing_case cases[] = {
     { "value", "", value, make_one_curve, 1, 16, false },
     { "value", "", value, make_one_curve, 8, 16, false },
     { "value", "", value, make_one_curve, 64, 16, false },
+    { "burst", "", burst, make_one_curve, 1, 16, false },
+    { "burst", "", burst, make_one_curve, 8, 16, false },
+    { "burst", "", burst, make_one_curve, 64, 16, false },
     { "lower", "two curves that cross", lower, make_two_curves, 1, 16, true },
     { "lower", "two curves that cross", lower, make_two_curves, 8, 16, true },
     { "lower", "two curves that cross", lower, make_two_curves, 64, 16, true },

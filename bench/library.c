@@ -4,14 +4,14 @@
 #include "plain.h"
 
 const struct library archive_library = {
-    duchrelin_normalise, duchrelin_value, duchrelin_lower, duchrelin_sum, duchrelin_shape, duchrelin_join, duchrelin_behind,
-    duchrelin_backlog, duchrelin_delay, duchrelin_residual, duchrelin_read, duchrelin_write_curve, duchrelin_write_server,
-    duchrelin_route,
+    duchrelin_normalise, duchrelin_value, duchrelin_burst, duchrelin_lower, duchrelin_sum, duchrelin_shape, duchrelin_join,
+    duchrelin_behind, duchrelin_backlog, duchrelin_delay, duchrelin_residual, duchrelin_read, duchrelin_write_curve,
+    duchrelin_write_server, duchrelin_route,
 };
 
 const struct library plain_library = {
-    plain_normalise, plain_value, plain_lower, plain_sum, plain_shape, plain_join, plain_behind, plain_backlog, plain_delay,
-    plain_residual, plain_read, plain_write_curve, plain_write_server, plain_route,
+    plain_normalise, plain_value, plain_burst, plain_lower, plain_sum, plain_shape, plain_join, plain_behind, plain_backlog,
+    plain_delay, plain_residual, plain_read, plain_write_curve, plain_write_server, plain_route,
 };
 
 const struct library named_library = {
@@ -28,6 +28,12 @@ static duchrelin_answer idle_normalise(const uint64_t *raw, size_t raw_numbers, 
 static duchrelin_figure idle_value(const uint64_t *curve, size_t curve_numbers, uint64_t tick)
 {
     (void)curve, (void)curve_numbers, (void)tick;
+    return (duchrelin_figure){ 0 };
+}
+
+static duchrelin_figure idle_burst(const uint64_t *curve, size_t curve_numbers)
+{
+    (void)curve, (void)curve_numbers;
     return (duchrelin_figure){ 0 };
 }
 
@@ -95,6 +101,6 @@ static duchrelin_written idle_route(const uint8_t *input, size_t input_bytes, ui
 }
 
 const struct library idle_library = {
-    idle_normalise, idle_value, idle_lower, idle_lower, idle_shape, idle_join, idle_behind, idle_backlog, idle_backlog,
+    idle_normalise, idle_value, idle_burst, idle_lower, idle_lower, idle_shape, idle_join, idle_behind, idle_backlog, idle_backlog,
     idle_residual, idle_read, idle_write_curve, idle_write_server, idle_route,
 };

@@ -224,7 +224,13 @@ duchrelin_figure plain_value(const uint64_t *curve, size_t curve_numbers, uint64
     uint64_t code = smaller_code(curve_refusal(curve, curve_numbers), tick >= TICK_END ? DUCHRELIN_RANGE : 0);
     if (code != 0)
         return refused_figure(code);
-    return (duchrelin_figure){ .code = 0, .figure = value_at(curve, curve_numbers / 2, tick) };
+    return (duchrelin_figure){ .code = 0, .figure = tick == 0 ? 0 : value_at(curve, curve_numbers / 2, tick) };
+}
+
+duchrelin_figure plain_burst(const uint64_t *curve, size_t curve_numbers)
+{
+    uint64_t code = curve_refusal(curve, curve_numbers);
+    return code != 0 ? refused_figure(code) : (duchrelin_figure){ .code = 0, .figure = burst_of(curve, 0) };
 }
 
 /* The link's bucket lies below every bucket that is as steep or steeper, and covers some of the others together with the one that

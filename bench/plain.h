@@ -10,6 +10,7 @@
 
 duchrelin_answer plain_normalise(const uint64_t *raw, size_t raw_numbers, uint64_t *out, size_t out_numbers);
 duchrelin_figure plain_value(const uint64_t *curve, size_t curve_numbers, uint64_t tick);
+duchrelin_figure plain_burst(const uint64_t *curve, size_t curve_numbers);
 duchrelin_answer plain_lower(const uint64_t *f, size_t f_numbers, const uint64_t *g, size_t g_numbers,
                              uint64_t *out, size_t out_numbers);
 duchrelin_answer plain_sum(const uint64_t *f, size_t f_numbers, const uint64_t *g, size_t g_numbers,

@@ -43,6 +43,7 @@ static void curves(void)
     show_figure("value at 0", duchrelin_value(flow, 4, 0));
     show_figure("value at 2", duchrelin_value(flow, 4, 2));
     show_figure("value at 3", duchrelin_value(flow, 4, 3));
+    show_figure("burst", duchrelin_burst(flow, 4));
     show_curve("lower", duchrelin_lower(steep, 2, flat, 2, out, CURVE));
     show_curve("sum", duchrelin_sum(flow, 4, other, 4, out, CURVE));
     show_curve("shape", duchrelin_shape(flat, 2, 10, out, CURVE));

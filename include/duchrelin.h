@@ -113,9 +113,13 @@ typedef struct duchrelin_written {
  * Example: {3,20, 10,2, 10,2, 5,15, 3,25} gives count 2 and {10,2, 3,20}. */
 duchrelin_answer duchrelin_normalise(const uint64_t *raw, size_t raw_numbers, uint64_t *out, size_t out_numbers);
 
-/* What the curve gives by a tick, 0 to 2^40-1, in bits: the least of rate * tick + burst over its buckets.
- * Example: {10,2, 3,20} gives 2 at tick 0, 22 at tick 2 and 29 at tick 3. */
+/* What the curve gives by a tick, 0 to 2^40-1, in bits: 0 at tick 0, for nothing comes in no time; later the least of
+ * rate * tick + burst over its buckets. Example: {10,2, 3,20} gives 0 at tick 0, 22 at tick 2 and 29 at tick 3. */
 duchrelin_figure duchrelin_value(const uint64_t *curve, size_t curve_numbers, uint64_t tick);
+
+/* The smallest burst of the curve, in bits: what may come at once. Backlog, delay and the curve behind count it from tick 0 on.
+ * Example: {10,2, 3,20} gives 2. */
+duchrelin_figure duchrelin_burst(const uint64_t *curve, size_t curve_numbers);
 
 /* The lower of the two curves at every time: normal form of the buckets of both.
  * Example: {10,2} and {3,20} give count 2 and {10,2, 3,20}. */

@@ -27,18 +27,17 @@ static uint64_t figure(duchrelin_figure f, uint64_t *to)
     return f.code;
 }
 
-uint64_t ask_burst(const struct curve *c, uint64_t *to) { return figure(duchrelin_value(LIST_OF(c), 0), to); }
+uint64_t ask_burst(const struct curve *c, uint64_t *to) { return figure(duchrelin_burst(LIST_OF(c)), to); }
 
-uint64_t ask_come(const struct curve *c, uint64_t tick, uint64_t *to)
-{
-    return tick == 0 ? ask_burst(c, to) : figure(duchrelin_value(LIST_OF(c), tick), to);
-}
+uint64_t ask_value(const struct curve *c, uint64_t tick, uint64_t *to) { return figure(duchrelin_value(LIST_OF(c), tick), to); }
+
+uint64_t ask_come(const struct curve *c, uint64_t tick, uint64_t *to) { return tick == 0 ? ask_burst(c, to) : ask_value(c, tick, to); }
 
 /* A port of latency 0 serves by tick t what the one bucket (rate, 0) is at t, and the latency moves that to the right. */
 uint64_t ask_served(struct server s, uint64_t tick, uint64_t *to)
 {
     const struct curve line = {.count = 1, .numbers = {s.rate, 0}};
-    return ask_come(&line, tick > s.latency ? tick - s.latency : 0, to);
+    return ask_value(&line, tick > s.latency ? tick - s.latency : 0, to);
 }
 
 uint64_t ask_join(struct server s, struct server next, struct server *to)

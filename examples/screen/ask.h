@@ -37,8 +37,10 @@ uint64_t long_run_rate(const struct curve *c);
 /* The profile in a file. */
 uint64_t ask_read(const uint8_t *file, size_t bytes, struct profile *to);
 
-/* The bits that can come at once; and those that can come within a count of ticks, of 0 ticks those at once. */
+/* The bits that can come at once; the curve's value at a tick, which is 0 at tick 0; and what a port must be ready for by a tick: at 0
+ * the bits at once, later the value. */
 uint64_t ask_burst(const struct curve *c, uint64_t *to);
+uint64_t ask_value(const struct curve *c, uint64_t tick, uint64_t *to);
 uint64_t ask_come(const struct curve *c, uint64_t tick, uint64_t *to);
 
 /* The bits that a port has served by a tick. */

@@ -44,21 +44,32 @@ static void say_lines(struct picture *p, const struct route *r, size_t hop)
         ADD(p->ends, "the lines end where no later tick can be asked for, the traffic's at tick %" PRIu64, d->curve_end);
 }
 
+/* How many bits may have come by a tick: by tick 0 the burst, which comes at once. */
+static void say_come(char to[CAPTION_BYTES], uint64_t bits, uint64_t tick)
+{
+    if (tick == 0)
+        add_text(to, CAPTION_BYTES, "%" PRIu64 " may come at once", bits);
+    else
+        add_text(to, CAPTION_BYTES, "%" PRIu64 " may have come by tick %" PRIu64, bits, tick);
+}
+
 static void say_measures(struct picture *p)
 {
     const struct measure *m = &p->plot.measure;
     ADD(p->backlog, "backlog %" PRIu64 " %s: ", m->backlog, plural(m->backlog, "bit", "bits"));
-    if (m->backlog == 0)
+    if (m->backlog == 0) {
         ADD(p->backlog, "nothing ever waits");
-    else
-        ADD(p->backlog, "%" PRIu64 " may have come by tick %" PRIu64 ", and %" PRIu64 " %s served by then", m->full_come, m->full,
-            m->full_served, plural(m->full_served, "is", "are"));
+    } else {
+        say_come(p->backlog, m->full_come, m->full);
+        ADD(p->backlog, ", and %" PRIu64 " %s served by then", m->full_served, plural(m->full_served, "is", "are"));
+    }
     ADD(p->delay, "delay %" PRIu64 " %s: ", m->delay, plural(m->delay, "tick", "ticks"));
-    if (m->delay == 0)
+    if (m->delay == 0) {
         ADD(p->delay, "what has come by a tick is served by it");
-    else
-        ADD(p->delay, "%" PRIu64 " may have come by tick %" PRIu64 ", served by tick %" PRIu64 " and not by %" PRIu64, m->late_come,
-            m->late, m->late + m->delay, m->late + m->delay - 1);
+    } else {
+        say_come(p->delay, m->late_come, m->late);
+        ADD(p->delay, ", served by tick %" PRIu64 " and not by %" PRIu64, m->late + m->delay, m->late + m->delay - 1);
+    }
 }
 
 static void say_unknown(struct picture *p, const struct route *r)

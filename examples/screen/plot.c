@@ -43,10 +43,21 @@ static uint64_t ask_line(const struct plot *p, enum mark line, uint64_t tick, ui
     return line == CURVE_MARK ? ask_come(&p->curve, tick, bits) : ask_served(p->server, tick, bits);
 }
 
+/* The row at which a line starts: the curve at its value at tick 0, from where it steps to the burst. */
+static int start_row(const struct plot *p, enum mark line)
+{
+    uint64_t bits = 0;
+    if (line == CURVE_MARK)
+        ask_value(&p->curve, 0, &bits);
+    else
+        ask_served(p->server, 0, &bits);
+    return row_of(p, (double)bits);
+}
+
 /* A line over all columns, straight between two ticks. It ends where the library tells no value. */
 static void put_line(struct plot *p, enum mark line)
 {
-    int before = 0;
+    int before = start_row(p, line) - 1;
     for (int column = 0; column <= COLUMNS; column++) {
         double at = (double)p->ticks.end * column / COLUMNS;
         uint64_t tick = (uint64_t)at, low = 0, high = 0;
@@ -56,7 +67,7 @@ static void put_line(struct plot *p, enum mark line)
             high = low;
         double bits = (double)low + (double)(high - low) * (at - (double)tick);
         int row = bits > (double)p->bits.end ? ROWS + 1 : row_of(p, bits);
-        for (int r = column == 0 || row <= before ? row : before + 1; r <= row; r++)
+        for (int r = row <= before ? row : before + 1; r <= row; r++)
             put_mark(p, column, r, line);
         before = row;
     }

@@ -85,12 +85,14 @@ static void put_axes(FILE *to, const struct plot *d)
     put_words(to, LEFT + COLUMNS * CELL_WIDTH, BOTTOM + 36, "text-anchor=\"end\" font-weight=\"bold\"", "ticks");
 }
 
-/* The curve: the library is asked at most once for each pixel, and a point on the straight line between its neighbours is left out. */
+/* The curve, from its value at 0 up to the burst and on: the library is asked at most once for each pixel, and a point on the straight
+ * line between its neighbours is left out. */
 static void put_curve(FILE *to, const struct plot *d)
 {
-    uint64_t stride = d->curve_end / (COLUMNS * CELL_WIDTH) + 1, tick = 0, bits = 0, rise = UINT64_MAX;
+    uint64_t stride = d->curve_end / (COLUMNS * CELL_WIDTH) + 1, tick = 0, start = 0, bits = 0, rise = UINT64_MAX;
+    ask_value(&d->curve, 0, &start);
     ask_come(&d->curve, 0, &bits);
-    fprintf(to, "<path d=\"M%.1f %.1f", x_of(d, 0), y_of(d, (double)bits));
+    fprintf(to, "<path d=\"M%.1f %.1fV%.1f", x_of(d, 0), y_of(d, (double)start), y_of(d, (double)bits));
     while (tick < d->curve_end) {
         uint64_t next_tick = d->curve_end - tick < stride ? d->curve_end : tick + stride, next = 0;
         ask_come(&d->curve, next_tick, &next);
@@ -120,16 +122,22 @@ static void put_served(FILE *to, const struct plot *d)
             x_of(d, 0), (int)BOTTOM, x_of(d, (double)from), x, y);
 }
 
+/* The values at whole ticks, and at tick 0 a ring for the burst. */
 static void put_dots(FILE *to, const struct plot *d)
 {
+    uint64_t burst = 0;
     if (d->ticks.end > MOST_DOTS)
         return;
+    ask_burst(&d->curve, &burst);
+    if (burst > 0)
+        fprintf(to, "<circle cx=\"%.1f\" cy=\"%.1f\" r=\"3.5\" fill=\"#ffffff\" stroke=\"" CURVE_COLOUR "\" stroke-width=\"2\"/>\n",
+                x_of(d, 0), y_of(d, (double)burst));
     for (uint64_t tick = 0; tick <= d->ticks.end; tick++) {
-        uint64_t come = 0, served = 0;
-        ask_come(&d->curve, tick, &come);
+        uint64_t value = 0, served = 0;
+        ask_value(&d->curve, tick, &value);
         ask_served(d->server, tick, &served);
         double x = x_of(d, (double)tick);
-        fprintf(to, "<circle cx=\"%.1f\" cy=\"%.1f\" r=\"3\" fill=\"" CURVE_COLOUR "\"/>\n", x, y_of(d, (double)come));
+        fprintf(to, "<circle cx=\"%.1f\" cy=\"%.1f\" r=\"3\" fill=\"" CURVE_COLOUR "\"/>\n", x, y_of(d, (double)value));
         if (served <= d->bits.end)
             fprintf(to, "<circle cx=\"%.1f\" cy=\"%.1f\" r=\"3\" fill=\"" SERVED_COLOUR "\"/>\n", x, y_of(d, (double)served));
     }

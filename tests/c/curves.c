@@ -1,4 +1,4 @@
-/* normalise, value, lower, sum and shape. What every call that takes a curve refuses stands in refusals.c. */
+/* normalise, value, burst, lower, sum and shape. What every call that takes a curve refuses stands in refusals.c. */
 #include "harness.h"
 
 #include <string.h>
@@ -74,7 +74,7 @@ static void value_is(const char *name, list curve, uint64_t tick, uint64_t expec
 
 static void valuing(void)
 {
-    value_is("C at 0: the smallest burst", C, 0, 2);
+    value_is("C at 0: nothing comes in no time", C, 0, 0);
     value_is("C at 1", C, 1, 12);
     value_is("C at 2", C, 2, 22);
     value_is("C at 3", C, 3, 29);
@@ -84,7 +84,8 @@ static void valuing(void)
     value_is("P3's curve at 1", CURVE(10, 0, 4, 2, 0, 5), 1, 5);
     /* (2^20-1)(2^40-1) + 2^40-1 */
     value_is("the greatest value", CURVE(RATE_END - 1, BURST_END - 1), TICK_END - 1, (UINT64_C(1) << 60) - RATE_END);
-    value_is("64 buckets at 0", full_stairs(), 0, 0);
+    value_is("64 buckets at 0", stairs(70, 7, 1, 64), 0, 0);
+    value_is("burst 2^40-1 at 0", CURVE(1, BURST_END - 1), 0, 0);
     /* Bucket 10 is lowest at 10: 53 * 10 + 55. */
     value_is("64 buckets at 10", full_stairs(), 10, 585);
     /* From 63 on it is bucket 63: 63 * 64 / 2. */
@@ -103,6 +104,22 @@ static void valuing(void)
     refuses(value(CURVE(3, 20, 10, 2), TICK_END), 6);
     test("value, RANGE of the curve and of the tick");
     refuses(value(CURVE(RATE_END, 0), TICK_END), 6);
+}
+
+static void burst_is(const char *name, list curve, uint64_t expected)
+{
+    test(name);
+    gives(burst(curve), figure(expected));
+}
+
+static void bursting(void)
+{
+    burst_is("the burst of C", C, 2);
+    burst_is("the burst of what carries nothing", CURVE(0, 0), 0);
+    burst_is("the burst of P3's curve", CURVE(10, 0, 4, 2, 0, 5), 0);
+    burst_is("burst 2^40-1", CURVE(0, BURST_END - 1), BURST_END - 1);
+    burst_is("two large bursts", CURVE(1, BURST_END - 2, 0, BURST_END - 1), BURST_END - 2);
+    burst_is("the burst of 64 buckets", stairs(70, 7, 1, 64), stair_burst(7));
 }
 
 static void lower_gives(const char *name, list f, list g, list answer)
@@ -287,6 +304,7 @@ void curve_tests(void)
 {
     normalising();
     valuing();
+    bursting();
     lowering();
     adding();
     shaping();

@@ -56,6 +56,15 @@ void figures_tests(void)
     const char *text = "hop 1 32 6\nhop 2 38 9\nroute 38 9\n";
     gives(route(p12), file_answer((file){(const uint8_t *)text, strlen(text)}));
 
+    test("C at 0, and its burst");
+    gives(value(C, 0), figure(0));
+    gives(burst(C), figure(2));
+    test("the burst of {(0,0)}");
+    gives(burst(CURVE(0, 0)), figure(0));
+    test("{(0,5)} and (10,0): a burst takes a tick");
+    gives(backlog(CURVE(0, 5), PORT(10, 0)), figure(5));
+    gives(delay(CURVE(0, 5), PORT(10, 0)), figure(1));
+
     test("shape {(3,20)} by 10");
     gives(shape(CURVE(3, 20), 10), curve_answer(CURVE(10, 0, 3, 20)));
     test("join (1, 2^20-1) with (1, 0), and with (1, 1)");

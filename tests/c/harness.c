@@ -203,6 +203,8 @@ static outcome ask(question q)
         return of_answer(duchrelin_normalise(f, q.f.count, out, q.room));
     case VALUE:
         return of_figure(duchrelin_value(f, q.f.count, q.number));
+    case BURST:
+        return of_figure(duchrelin_burst(f, q.f.count));
     case LOWER:
         return of_answer(duchrelin_lower(f, q.f.count, g, q.g.count, out, q.room));
     case SUM:
@@ -310,6 +312,7 @@ outcome curve_answer(list l)
 
 question normalise(list raw) { return (question){.call = NORMALISE, .f = raw, .room = PLENTY}; }
 question value(list curve, uint64_t tick) { return (question){.call = VALUE, .f = curve, .number = tick}; }
+question burst(list curve) { return (question){.call = BURST, .f = curve}; }
 question lower(list f, list g) { return (question){.call = LOWER, .f = f, .g = g, .room = PLENTY}; }
 question sum(list f, list g) { return (question){.call = SUM, .f = f, .g = g, .room = PLENTY}; }
 question shape(list curve, uint64_t rate) { return (question){.call = SHAPE, .f = curve, .number = rate, .room = PLENTY}; }

@@ -74,7 +74,9 @@ enum { RAW_NUMBERS = 2 };
 list curve_of(list pairs);
 size_t curve_into(uint64_t *numbers, list pairs);
 
-enum call { NORMALISE, VALUE, LOWER, SUM, SHAPE, JOIN, BEHIND, BACKLOG, DELAY, RESIDUAL, READ, WRITE_CURVE, WRITE_SERVER, ROUTE };
+enum call {
+    NORMALISE, VALUE, BURST, LOWER, SUM, SHAPE, JOIN, BEHIND, BACKLOG, DELAY, RESIDUAL, READ, WRITE_CURVE, WRITE_SERVER, ROUTE
+};
 
 /* A question: the call, and of the rest what that call takes. */
 typedef struct {
@@ -119,6 +121,7 @@ void gives_by_room(question asked, outcome expected, size_t first, size_t last);
 
 question normalise(list raw);
 question value(list curve, uint64_t tick);
+question burst(list curve);
 question lower(list f, list g);
 question sum(list f, list g);
 question shape(list curve, uint64_t link_rate);

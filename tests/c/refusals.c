@@ -8,6 +8,7 @@ static void no_curve(const char *name, list bad, uint64_t code)
 {
     testf("no curve: %s", name);
     refuses(value(bad, 0), code);
+    refuses(burst(bad), code);
     refuses(lower(bad, C), code);
     refuses(lower(C, bad), code);
     refuses(lower(bad, bad), code);

@@ -147,6 +147,11 @@ def figures(tally):
         ("P11, curve written", "write_curve", [curve([(10, 2)])], (0, 10), curve_10_2),
         ("P11, curve read", "read", [curve_10_2], (0, 1, 1, *NO_SERVER), curve([(10, 2)])),
         ("P12", "route", [p12], (0, len(p12_text)), p12_text),
+        ("C at 0", "value", [curve(C), 0], (0, 0), None),
+        ("the burst of C", "burst", [curve(C)], (0, 2), None),
+        ("the burst of {(0,0)}", "burst", [curve([(0, 0)])], (0, 0), None),
+        ("{(0,5)} and (10,0), backlog", "backlog", [curve([(0, 5)]), *Server(10, 0)], (0, 5), None),
+        ("{(0,5)} and (10,0), delay", "delay", [curve([(0, 5)]), *Server(10, 0)], (0, 1), None),
         ("shape {(3,20)} by 10", "shape", [curve([(3, 20)]), 10], (0, 2), curve([(10, 0), (3, 20)])),
         ("join (1, 2^20-1) with (1, 0)", "join", [*most, *Server(1, 0)], (0, *most), None),
         ("join (1, 2^20-1) with (1, 1)", "join", [*most, *Server(1, 1)], (LARGE, *NO_SERVER), None),
@@ -281,6 +286,8 @@ def campaigns(tally):
     run("normalise, long lists", 100, lambda: [drawing.as_raw(drawing.large_raw(), 0.2)], "normalise")
     run("value, small curves", 3000, lambda: [drawing.as_curve(small(), 0.35), drawing.tick(0.2)], "value")
     run("value, long curves", 60, lambda: [drawing.as_curve(large(), 0.2), drawing.tick(0.1)], "value")
+    run("burst, small curves", 2000, lambda: [drawing.as_curve(small(), 0.35)], "burst")
+    run("burst, long curves", 60, lambda: [drawing.as_curve(large(), 0.2)], "burst")
     run("lower, small curves", 3000, two_curves(small, 0.35), "lower")
     run("lower, long curves", 50, two_curves(large, 0.2), "lower")
     run("lower, 60 to 68 buckets", 25, parts_of_one_curve, "lower")

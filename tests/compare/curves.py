@@ -127,8 +127,15 @@ def normalise(raw):
 
 
 def value_at(curve, tick):
+    """The curve's value; in no time nothing comes."""
     lines = curve_refusals(curve) | (set() if tick < TICK_END else {RANGE})
-    return Exact(lines, (0 if lines else value(curve_buckets(curve), tick),))
+    return Exact(lines, (0 if lines or tick == 0 else value(curve_buckets(curve), tick),))
+
+
+def burst_of(curve):
+    """The smallest burst."""
+    lines = curve_refusals(curve)
+    return Exact(lines, (0 if lines else min(burst for _, burst in curve_buckets(curve)),))
 
 
 def lower(f, g):

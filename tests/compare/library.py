@@ -47,6 +47,7 @@ class Call(NamedTuple):
 CALLS = {
     "normalise": Call(LENT, ANSWER, LIST_OUT, curves.normalise, {0, LIST, COUNT, RANGE, ROOM}),
     "value": Call(LENT + NUMBER, FIGURE, NOTHING_OUT, curves.value_at, {0} | CURVE_CODES),
+    "burst": Call(LENT, FIGURE, NOTHING_OUT, curves.burst_of, {0} | CURVE_CODES),
     "lower": Call(LENT + LENT, ANSWER, LIST_OUT, curves.lower, {0, LARGE, ROOM} | CURVE_CODES),
     "sum": Call(LENT + LENT, ANSWER, LIST_OUT, curves.sum_of, {0, LARGE, ROOM} | CURVE_CODES),
     "shape": Call(LENT + NUMBER, ANSWER, LIST_OUT, curves.shape, {0, LARGE, ROOM} | CURVE_CODES),

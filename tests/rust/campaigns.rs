@@ -144,6 +144,14 @@ const CAMPAIGNS: &[(&str, usize, Draw)] = &[
     ("normalise, long lists", 6_000, long_normalise),
     ("value, short curves", 100_000, short_value),
     ("value, long curves", 6_000, long_value),
+    ("burst, short curves", 50_000, |rng| {
+        let curve = small_curve(rng);
+        questions::burst(&as_curve(rng, &curve, 4))
+    }),
+    ("burst, long curves", 3_000, |rng| {
+        let curve = large_curve(rng);
+        questions::burst(&as_curve(rng, &curve, 8))
+    }),
     ("lower, short curves", 150_000, |rng| short_of_two(rng, Lower)),
     ("lower, long curves", 3_000, |rng| long_of_two(rng, Lower)),
     ("lower, one curve dealt out", 3_000, dealt_out),
@@ -304,6 +312,12 @@ pub fn figures(run: &mut Run) {
     figure(run, "P11", questions::read(&curve_bytes), 0, [1, 1, 0, 0], &list(&[10, 2]));
     let input = [curve_file(&curve_buckets(&c)), server_file(server(6, 4)), server_file(server(5, 2))].concat();
     bytes_figure(run, "P12", questions::route(&input), b"hop 1 32 6\nhop 2 38 9\nroute 38 9\n");
+
+    number(run, "C at 0, and its burst", questions::value(&c, 0), 0);
+    number(run, "C at 0, and its burst", questions::burst(&c), 2);
+    number(run, "the burst of {(0,0)}", questions::burst(&list(&[0, 0])), 0);
+    number(run, "{(0,5)} and (10,0)", port(Backlog, &[0, 5], 10, 0), 5);
+    number(run, "{(0,5)} and (10,0)", port(Delay, &[0, 5], 10, 0), 1);
 
     curve(run, "shape {(3,20)} by 10", questions::shape(&list(&[3, 20]), 10), &[10, 0, 3, 20]);
     let most = server(1, LATENCY_END - 1);

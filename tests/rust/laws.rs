@@ -20,23 +20,23 @@ const DECIDING_BYTES: usize = 675;
 const NORMAL_ANSWERS: &str = "law: an answer is the normal form of its raw buckets";
 const NORMAL_AGAIN: &str = "law: normalise of an answer is the answer";
 const NORMALISE_ANSWERS: &str = "law: normalise answers buckets in range";
-const NORMALISE_VALUE: &str = "law: the value of a normal form is the least of the raw buckets";
+const NORMALISE_READS: &str = "law: a normal form reads as the least of the raw buckets";
 const NORMALISE_ORDER: &str = "law: normalise in another order";
 const LOWER_ITSELF: &str = "law: lower of a curve with itself";
 const SUM_ITSELF: &str = "law: sum of a curve with itself";
 const SUM_NOTHING: &str = "law: the sum with the curve 0";
 const LENT_TWICE: &str = "law: one list lent twice";
 const SHAPE_IS_LOWER: &str = "law: shape is lower with the link's bucket";
-const SHAPE_VALUE: &str = "law: the value of shape is the smaller of curve and link";
+const SHAPE_READS: &str = "law: shape reads as the smaller of curve and link";
 const LOWER_TURNED: &str = "law: lower the other way round";
 const SUM_TURNED: &str = "law: sum the other way round";
-const LOWER_VALUE: &str = "law: the value of lower is the smaller value";
-const SUM_VALUE: &str = "law: the value of sum is the sum of values";
+const LOWER_READS: &str = "law: lower reads as the smaller of the two";
+const SUM_READS: &str = "law: sum reads as the sum of the two";
 const SUM_OVER_LOWER: &str = "law: sum over lower";
 const JOIN_TURNED: &str = "law: join the other way round";
 const JOIN_GROUPED: &str = "law: join in another grouping";
 const BEHIND_GREATEST: &str = "law: behind at a tick is the greatest gap of arrivals u ticks later over service by u";
-const BACKLOG_BEHIND: &str = "law: backlog is the value of behind at 0";
+const BACKLOG_BEHIND: &str = "law: backlog is the burst of behind";
 const DELAY_ENOUGH: &str = "law: what has come by a tick is served when the delay is over";
 const DELAY_LEAST: &str = "law: one tick less than the delay is too short at some tick";
 const REFUSED_ALIKE: &str = "law: behind, backlog and delay refuse alike, but for LARGE";
@@ -53,18 +53,18 @@ pub const NAMES: &[&str] = &[
     NORMAL_ANSWERS,
     NORMAL_AGAIN,
     NORMALISE_ANSWERS,
-    NORMALISE_VALUE,
+    NORMALISE_READS,
     NORMALISE_ORDER,
     LOWER_ITSELF,
     SUM_ITSELF,
     SUM_NOTHING,
     LENT_TWICE,
     SHAPE_IS_LOWER,
-    SHAPE_VALUE,
+    SHAPE_READS,
     LOWER_TURNED,
     SUM_TURNED,
-    LOWER_VALUE,
-    SUM_VALUE,
+    LOWER_READS,
+    SUM_READS,
     SUM_OVER_LOWER,
     JOIN_TURNED,
     JOIN_GROUPED,
@@ -88,13 +88,10 @@ impl Run {
         self.check(name, good, || format!("{operands:?}"));
     }
 
-    fn value(&mut self, curve: &[u64], tick: u64) -> Option<u128> {
-        self.answer(&questions::value(curve, tick)).figure().map(u128::from)
-    }
-
-    /// What behind, backlog, delay and residual read of a curve at a tick, also at 0: its value.
+    /// What behind, backlog, delay and residual read of a curve at a tick: its burst at 0, and its value later.
     fn reading(&mut self, curve: &[u64], tick: u64) -> Option<u128> {
-        self.value(curve, tick)
+        let question = if tick == 0 { questions::burst(curve) } else { questions::value(curve, tick) };
+        self.answer(&question).figure().map(u128::from)
     }
 }
 
@@ -115,8 +112,8 @@ fn laws_of_normalise(run: &mut Run, raw: &[Bucket]) {
     law_of_answers(run, told.list(), raw);
     for _ in 0..3 {
         let tick = good_tick(&mut run.rng, &curve_buckets(told.list()));
-        let good = run.value(told.list(), tick) == Some(least(raw, tick.into(), 1));
-        run.law(NORMALISE_VALUE, good, &[&list, &[tick]]);
+        let good = run.reading(told.list(), tick) == Some(least(raw, tick.into(), 1));
+        run.law(NORMALISE_READS, good, &[&list, &[tick]]);
     }
     let mut shuffled = raw.to_vec();
     run.rng.shuffle(&mut shuffled);
@@ -149,8 +146,8 @@ fn laws_of_one(run: &mut Run, curve: &[Bucket]) {
         law_of_answers(run, shape.list(), &[curve, &[link]].concat());
         let tick = good_tick(&mut run.rng, curve);
         let of_link = link.at(tick.into(), 1);
-        let good = run.value(shape.list(), tick) == run.value(&f, tick).map(|v| v.min(of_link));
-        run.law(SHAPE_VALUE, good, &[&f, &[rate, tick]]);
+        let good = run.reading(shape.list(), tick) == run.reading(&f, tick).map(|v| v.min(of_link));
+        run.law(SHAPE_READS, good, &[&f, &[rate, tick]]);
     }
 }
 
@@ -172,14 +169,14 @@ fn laws_of_two(run: &mut Run, f: &[u64], g: &[u64]) {
     }
     for _ in 0..2 {
         let tick = good_tick(&mut run.rng, &curve_buckets(f));
-        let both = run.value(f, tick).zip(run.value(g, tick));
+        let both = run.reading(f, tick).zip(run.reading(g, tick));
         if lower.answered() {
-            let good = both.is_some() && run.value(lower.list(), tick) == both.map(|(a, b)| a.min(b));
-            run.law(LOWER_VALUE, good, &[f, g, &[tick]]);
+            let good = both.is_some() && run.reading(lower.list(), tick) == both.map(|(a, b)| a.min(b));
+            run.law(LOWER_READS, good, &[f, g, &[tick]]);
         }
         if sum.answered() {
-            let good = both.is_some() && run.value(sum.list(), tick) == both.map(|(a, b)| a + b);
-            run.law(SUM_VALUE, good, &[f, g, &[tick]]);
+            let good = both.is_some() && run.reading(sum.list(), tick) == both.map(|(a, b)| a + b);
+            run.law(SUM_READS, good, &[f, g, &[tick]]);
         }
     }
 }
@@ -214,7 +211,7 @@ fn laws_of_join(run: &mut Run) {
     }
 }
 
-/// The greatest over u of value(t+u), as the library tells it, minus what is served by u + early. All
+/// The greatest over u of what is read at t+u, as the library tells it, minus what is served by u + early. All
 /// ticks are tried where the curve and the latency end soon. None where a tick would be out of range.
 fn greatest_gap(run: &mut Run, curve: &[Bucket], server: Server, t: u64, early: u64) -> Option<i128> {
     let list = curve_list(curve);
@@ -288,7 +285,7 @@ fn laws_of_two_hops(run: &mut Run, curve: &[Bucket], first: Server, second: Serv
     run.law(DELAYS_ADDED, good, &told);
 }
 
-/// What the server that is left has served past its latency, with the cross curve's value since, is
+/// What the server that is left has served past its latency, with what the cross curve lets come since, is
 /// within what the whole server has served.
 fn law_of_residual(run: &mut Run, cross: &[Bucket], server: Server) {
     let list = curve_list(cross);

@@ -110,6 +110,7 @@ pub fn ask(question: &Question, room: usize) -> Told {
     let (code, figures) = match operation {
         Normalise => of_answer(library::normalise(f.list(), out.list_mut())),
         Value => of_figure(library::value(f.list(), *number)),
+        Burst => of_figure(library::burst(f.list())),
         Lower => of_answer(library::lower(f.list(), g.list(), out.list_mut())),
         Sum => of_answer(library::sum(f.list(), g.list(), out.list_mut())),
         Shape => of_answer(library::shape(f.list(), *number, out.list_mut())),

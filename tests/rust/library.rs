@@ -52,6 +52,7 @@ const _: () = {
 extern "C" {
     fn duchrelin_normalise(raw: *const u64, raw_numbers: usize, out: *mut u64, out_numbers: usize) -> Answer;
     fn duchrelin_value(curve: *const u64, curve_numbers: usize, tick: u64) -> Figure;
+    fn duchrelin_burst(curve: *const u64, curve_numbers: usize) -> Figure;
     fn duchrelin_lower(
         f: *const u64,
         f_numbers: usize,
@@ -102,6 +103,10 @@ pub fn normalise(raw: &[u64], out: &mut [u64]) -> Answer {
 
 pub fn value(curve: &[u64], tick: u64) -> Figure {
     unsafe { duchrelin_value(curve.as_ptr(), curve.len(), tick) }
+}
+
+pub fn burst(curve: &[u64]) -> Figure {
+    unsafe { duchrelin_burst(curve.as_ptr(), curve.len()) }
 }
 
 pub fn lower(f: &[u64], g: &[u64], out: &mut [u64]) -> Answer {

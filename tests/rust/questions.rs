@@ -11,6 +11,7 @@ use Operation::*;
 pub enum Operation {
     Normalise,
     Value,
+    Burst,
     Lower,
     Sum,
     Shape,
@@ -25,8 +26,8 @@ pub enum Operation {
     Route,
 }
 
-pub const OPERATIONS: [Operation; 14] =
-    [Normalise, Value, Lower, Sum, Shape, Join, Behind, Backlog, Delay, Residual, Read, WriteCurve, WriteServer, Route];
+pub const OPERATIONS: [Operation; 15] =
+    [Normalise, Value, Burst, Lower, Sum, Shape, Join, Behind, Backlog, Delay, Residual, Read, WriteCurve, WriteServer, Route];
 
 /// What is lent for the answer.
 #[derive(Clone, Copy, PartialEq, Eq)]
@@ -41,7 +42,7 @@ impl Operation {
     pub fn codes(self) -> &'static [u32] {
         match self {
             Normalise => &[0, LIST, COUNT, RANGE, ROOM],
-            Value => &[0, LIST, COUNT, RANGE, FORM],
+            Value | Burst => &[0, LIST, COUNT, RANGE, FORM],
             Lower | Sum | Shape => &[0, LIST, COUNT, RANGE, FORM, LARGE, ROOM],
             Join => &[0, RANGE, LARGE],
             Behind => &[0, LIST, COUNT, RANGE, FORM, UNBOUNDED, LARGE, ROOM],
@@ -58,7 +59,7 @@ impl Operation {
         match self {
             Normalise | Lower | Sum | Shape | Behind | Read => Out::Numbers,
             WriteCurve | WriteServer | Route => Out::Bytes,
-            Value | Join | Backlog | Delay | Residual => Out::Nothing,
+            Value | Burst | Join | Backlog | Delay | Residual => Out::Nothing,
         }
     }
 }
@@ -90,6 +91,10 @@ pub fn normalise(raw: &[u64]) -> Question {
 
 pub fn value(curve: &[u64], tick: u64) -> Question {
     Question { f: curve.to_vec(), number: tick, ..empty(Value) }
+}
+
+pub fn burst(curve: &[u64]) -> Question {
+    Question { f: curve.to_vec(), ..empty(Burst) }
 }
 
 /// lower or sum.
@@ -279,6 +284,7 @@ fn operand_lines(question: &Question) -> [u32; 2] {
     match operation {
         Normalise => [raw_lines(f), 0],
         Value => [curve_lines(f), line(RANGE, *number >= TICK_END)],
+        Burst => [curve_lines(f), 0],
         Lower | Sum => [curve_lines(f), curve_lines(g)],
         Shape => [curve_lines(f), line(RANGE, !(1..RATE_END).contains(number))],
         Join => [server_lines(*server), server_lines(*next)],
@@ -297,7 +303,9 @@ fn answer(question: &Question) -> Exact {
     let (f, server) = (curve_buckets(list), *server);
     match operation {
         Normalise => of_curve(hull(&raw_buckets(list))),
+        Value if *number == 0 => of_figure(0),
         Value => of_figure(u64::try_from(least(&f, (*number).into(), 1)).expect("64 bits")),
+        Burst => of_figure(f.iter().map(|bucket| bucket.burst).min().expect("a bucket")),
         Lower => of_curve(hull(&[f, curve_buckets(g)].concat())),
         Sum => of_curve(added(&f, &curve_buckets(g))),
         Shape => of_curve(hull(&[f, vec![bucket(*number, 0)]].concat())),

@@ -28,6 +28,7 @@ const NO_OWN_BUCKET: &str = "not in the answer, though some rate is above the se
 const BEFORE_CROSSING: &str = "most above the server's rate at the tick before a crossing alone";
 const AFTER_CROSSING: &str = "most above the server's rate at the tick after a crossing alone";
 const EQUAL_RATE: &str = "a last rate that is the server's";
+const NO_TIME: &str = "tick 0, and a burst";
 const NOTHING_CARRIED: &str = "the curve {(0,0)} at a server with a latency";
 const CURVE_READ: &str = "a curve";
 const SERVER_READ: &str = "a server";
@@ -41,7 +42,8 @@ fn required(operation: Operation) -> Vec<&'static str> {
     let operands = [FIRST_WINS, SECOND_WINS];
     match operation {
         Normalise => lists.to_vec(),
-        Value => operands.to_vec(),
+        Value => [&operands[..], &[NO_TIME]].concat(),
+        Burst => Vec::new(),
         Lower | Shape => [&lists[..], &operands, &[ONE_TOO_MANY, LARGE_COUNT]].concat(),
         Sum => [&lists[..], &operands, &[ONE_TOO_MANY, LARGE_COUNT, LARGE_RATE, LARGE_BURST, LAST_BURST]].concat(),
         Join => vec![LAST_LATENCY, FIRST_LATENCY_BEYOND],
@@ -188,7 +190,11 @@ impl Run {
     }
 
     fn notes_of_operands(&mut self, question: &Question) {
-        let Question { operation, f, server, .. } = question;
+        let Question { operation, f, server, number, .. } = question;
+        if *operation == Value {
+            let burst = curve_buckets(f).iter().map(|b| b.burst).min();
+            self.note(Value, NO_TIME, *number == 0 && burst > Some(0));
+        }
         if let Behind | Backlog | Delay | Residual | WriteCurve = operation {
             let curve = curve_buckets(f);
             self.note(*operation, EQUAL_RATE, curve[curve.len() - 1].rate == server.rate);

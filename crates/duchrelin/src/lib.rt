@@ -6,7 +6,7 @@ use operations::ports;
 use operations::value;
 use servers::Server;
 ghost use Rattle.meaning.specs.Refusal.{Outcome};
-ghost use Rattle.meaning.specs.CurveQuestions.{normalising, lowering, summing, shaping, ValueOutcome};
+ghost use Rattle.meaning.specs.CurveQuestions.{normalising, lowering, summing, shaping, ValueOutcome, BurstOutcome};
 ghost use Rattle.meaning.specs.ServerQuestions.{JoinOutcome, passing, BacklogOutcome, DelayOutcome, ResidualOutcome};
 ghost use Rattle.meaning.specs.Profile.{ReadOutcome, WriteCurveOutcome, WriteServerOutcome};
 ghost use Rattle.meaning.specs.Route.{RouteOutcome};
@@ -63,12 +63,24 @@ pub extern "C" fn duchrelin_normalise(raw: &[u64], out: &mut [u64]) -> duchrelin
     }
 }
 
-// What a curve gives at a tick.
+// What a curve gives at a tick: nothing at 0.
 #[no_mangle]
 pub extern "C" fn duchrelin_value(curve: &[u64], tick: u64) -> duchrelin_figure
     ensures { λ r. ⌜ ValueOutcome (now (curve .entry)) tick (r .code) (r .figure) ⌝ }
 {
     let answer = value::value(curve, tick);
+    duchrelin_figure {
+        code: answer.code,
+        figure: answer.figure,
+    }
+}
+
+// What a curve lets come at once.
+#[no_mangle]
+pub extern "C" fn duchrelin_burst(curve: &[u64]) -> duchrelin_figure
+    ensures { λ r. ⌜ BurstOutcome (now (curve .entry)) (r .code) (r .figure) ⌝ }
+{
+    let answer = value::burst(curve);
     duchrelin_figure {
         code: answer.code,
         figure: answer.figure,

@@ -5,7 +5,7 @@ use mathlib.Core.Path.{refl}
 use mathlib.Core.List.{[], _∷_}
 use native.Mathlib.Omega.{arith}
 use lib.Dec.{lit≤}
-use Rattle.meaning.specs.Curve.{buckets, flat, curveOf, listOf, valueAt, reads, pairs}
+use Rattle.meaning.specs.Curve.{buckets, flat, curveOf, listOf, valueAt, reads, value, pairs}
 use Rattle.meaning.specs.Server.{join, last}
 use Rattle.meaning.specs.ServerQuestions.{BacklogOutcome, DelayOutcome}
 use Rattle.meaning.specs.Profile.{bitsOf, spelt, packed, bytesOf, bucketFields, fields, profileBits, byteCount, written}
@@ -13,6 +13,7 @@ use Rattle.meaning.specs.Computed.{isNormal, normal, behind, backlog, de
 use Rattle.meaning.specs.Route.{bytes, digits, numbers, hopText, routeText, hopTexts}
 use Rattle.meaning.specs.Figures.{C, port, Table}
 use Rattle.meaning.proofs.curve.Neighbours.{neighbours-sound}
+use Rattle.meaning.proofs.curve.Reads.{first-burst}
 use Rattle.meaning.proofs.curve.Normal.{normal-is}
 use Rattle.meaning.proofs.outcome.Demands.{refused-behind, refused-figure}
 use Rattle.meaning.proofs.server.Joining.{residual-is}
@@ -24,9 +25,9 @@ pub c-sound : Sound C
 unfolding buckets isNormal
 c-sound = record { form = neighbours-sound C refl; ranged = omega arith; few = lit≤ tt }
 
--- the figures P1 to P12
+-- the figures P1 to P12, and those of the requests
 pub table : Table
-unfolding buckets flat curveOf listOf reads pairs normal last valueAt behind backlog delay residual join written byteCount profileBits fields bucketFields packed bitsOf spelt bytesOf bytes digits numbers hopText routeText hopTexts BacklogOutcome DelayOutcome
+unfolding buckets flat curveOf listOf reads value isNormal pairs normal last valueAt behind backlog delay residual join written byteCount profileBits fields bucketFields packed bitsOf spelt bytesOf bytes digits numbers hopText routeText hopTexts BacklogOutcome DelayOutcome
 table =
     let c-first = worked (port 6 4) c-sound (lit≤ tt) (lit≤ tt) in
     let c32 = one-bucket 3 32 (omega arith) in
@@ -36,6 +37,7 @@ table =
     let above = one-bucket 6 7 (omega arith) in
     let nothing = worked (port 5 2) (one-bucket 0 0 (omega arith)) (lit≤ tt) (lit≤ tt) in
     let something = worked (port 10 3) (one-bucket 5 0 (omega arith)) (lit≤ tt) (lit≤ tt) in
+    let burst = worked (port 10 0) (one-bucket 0 5 (omega arith)) (lit≤ tt) (lit≤ tt) in
     record {
       p1 = normal-is _ (lit≤ tt);
       p2 = (normal-is _ (lit≤ tt), omega arith, omega arith);
@@ -64,5 +66,12 @@ table =
             (join-clear (omega arith) (omega arith) (omega arith)) second))
             _ (record { backlog-is = c-joined .1; delay-is = c-joined .2 }),
         refl,
+      );
+      at-once = (
+        refl,
+        first-burst (c-sound .form),
+        first-burst (neighbours-sound (buckets (0 ∷ 0 ∷ [])) refl),
+        burst .1,
+        burst .2,
       );
     }

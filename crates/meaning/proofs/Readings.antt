@@ -1,5 +1,5 @@
 -- Readings of the definitions, for a reader who has other words in mind. Normal form by positions: "every other bucket" is every
--- bucket at another position. The value at tick 0 is the smallest burst. A server serves nothing up to its latency, and its rate
+-- bucket at another position. A server serves nothing up to its latency, and its rate
 -- by the tick from then on. A greatest gap is the greatest of the differences, each 0 where it would be negative. The crossing
 -- numbered k is at the time (b_k - b_{k-1}) / (r_{k-1} - r_k). The byte counts of profile files.
 -- Assumes nothing.
@@ -10,12 +10,12 @@ use Prim.Native.Nat.{ℕ, suc, _+_, _-_, _*_, _≤_, _<_}
 use native.Mathlib.Nat.{le-of-lt}
 use native.Mathlib.Omega.{arith}
 use lib.ListN.{length, getD}
-use Rattle.meaning.specs.Curve.{Bucket, _∈_, bucketAt, Falling, Useful, NormalForm, Crossing, reads, numbered, value}
+use Rattle.meaning.specs.Curve.{Bucket, _∈_, bucketAt, Falling, Useful, NormalForm, Crossing, reads, numbered}
 use Rattle.meaning.specs.Server.{Server, Instant, served, GreatestGap, Excess, Backlog}
 use Rattle.meaning.specs.Profile.{written, curve}
 use Rattle.meaning.proofs.Order.{le-or-lt, lt-or-eq-or-gt}
 use Rattle.meaning.proofs.Lists.{at-inside, falling-at}
-use Rattle.meaning.proofs.curve.Value.{same-rate, value-least, value-reached}
+use Rattle.meaning.proofs.curve.Value.{same-rate}
 use Rattle.meaning.proofs.curve.Neighbours.{meet, meet-at, below-rises}
 use Rattle.meaning.proofs.server.Joining.{served-past}
 use Rattle.meaning.proofs.profile.Files.{curve-bytes}
@@ -124,32 +124,6 @@ normal-by-position f = (to, from)
             let t = position m in
             rw (t .there) (useful-by-position f falls (t .i) (t .inside) .1 (n .useful (t .i) (t .inside)))
 
--- ---- Value: at tick 0 it is the smallest burst.
-
--- n is the smallest burst of a list.
-pub record SmallestBurst (f : List Bucket) (n : ℕ) : Type 0 where
-  pub lowest : Bucket
-  pub inside : lowest ∈ f
-  pub reached : n ≡ lowest .burst
-  pub smallest : (k : Bucket) → k ∈ f → n ≤ k .burst
-
--- the value at tick 0 is the smallest burst
-pub value-at-zero : (f : List Bucket) → 1 ≤ length f → SmallestBurst f (value f 0)
-unfolding bucketAt value
-value-at-zero f h =
-    let r = value-reached f 0 1 h in
-    record {
-      lowest = r .bucket;
-      inside = r .inside;
-      reached = omega (arith, r .value-is);
-      smallest = λ k m. omega (arith, value-least f 0 1 m);
-    }
-
--- at every other tick it is what backlog, delay and the curve behind read
-pub value-later : (f : List Bucket) (t : ℕ) → 1 ≤ t → value f t ≡ reads f t
-unfolding value reads
-value-later f t h = refl
-
 -- ---- Service: nothing up to the latency, then the rate for each tick.
 
 -- up to its latency a server serves 0
@@ -186,11 +160,11 @@ module _ {a b : Instant → ℕ} {n : ℕ} where
       every : (u : Instant) → a u ≤ b u + n
       every u = omega (arith, d .greatest u)
 
--- the backlog is the greatest difference of value and service
+-- the backlog is the greatest difference of what is read and what is served
 pub backlog-is-difference : (f : List Bucket) (s : Server) (n : ℕ) → Backlog f s n ↔ GreatestDifference (reads f) (served s) n
 backlog-is-difference f s n = (gap-is-difference, difference-is-gap (served-late s 0 (omega arith)))
 
--- and M is the greatest difference of value and R·u
+-- and M is the greatest difference of what is read and R·u
 pub excess-is-difference : (f : List Bucket) (rate n : ℕ) → Excess f rate n ↔ GreatestDifference (reads f) (λ u. rate * u) n
 excess-is-difference f rate n = (gap-is-difference, difference-is-gap (omega arith))
 

@@ -3,6 +3,7 @@ pub mod Value
 pub mod Lowest
 pub mod Unique
 pub mod Neighbours
+pub mod Reads
 pub mod Usefulness
 pub mod Normal
 pub mod Curves

@@ -8,4 +8,5 @@ pub mod Demands
 pub mod Bytes
 pub mod EveryInput
 pub mod KnownServers
+pub mod AtOnce
 pub mod ServerSlips

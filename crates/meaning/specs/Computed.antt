@@ -96,7 +96,7 @@ unfoldable pub normal : List Bucket → List Bucket
 unfolding chosen
 normal raw = chosen raw raw
 
--- The greatest of value(s) - R·s for a curve in normal form: it is reached at the last whole tick
+-- M, the greatest of what is read at s less R·s, for a curve in normal form: it is reached at the last whole tick
 -- up to the crossing with the first bucket of rate at most R, or at the one after.
 unfoldable pub excessAt : List Bucket → ℕ → ℕ → ℕ
 unfolding reads
@@ -121,7 +121,7 @@ unfoldable pub behind : List Bucket → RateLatency → List Bucket
 unfolding normal excess slower
 behind f s = normal (slower s f ++ record { rate = s .rate; burst = s .rate * s .latency + excess f (s .rate) } ∷ [])
 
--- backlog is the value at 0 of the curve behind.
+-- backlog is the burst of the curve behind.
 unfoldable pub backlog : List Bucket → RateLatency → ℕ
 unfolding behind reads
 backlog f s = reads (behind f s) 0
@@ -130,7 +130,7 @@ backlog f s = reads (behind f s) 0
 unfoldable pub roundedUp : ℕ → ℕ → ℕ
 roundedUp b r = (b + r - 1) / r
 
--- delay is T + M/R rounded up, and 0 for the curve that carries nothing, whose value at tick 1 is 0.
+-- delay is T + M/R rounded up, and 0 for the curve that carries nothing: by tick 1 nothing has come.
 unfoldable pub delay : List Bucket → RateLatency → ℕ
 unfolding excess roundedUp reads
 delay f s = cond (eqb (reads f 1) 0) 0 (s .latency + roundedUp (excess f (s .rate)) (s .rate))

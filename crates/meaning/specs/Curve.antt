@@ -4,7 +4,7 @@
 -- Assumes nothing.
 use mathlib.Core.Path.{_≡_}
 use mathlib.Core.List.{List, [], _∷_, _++_, map, List·Memᴰ}
-use Prim.Native.Nat.{ℕ, _+_, _-_, _*_, _≤_, _<_, min}
+use Prim.Native.Nat.{ℕ, zero, suc, _+_, _-_, _*_, _≤_, _<_, min}
 use lib.ListN.{length, getD}
 
 infix 50 _∈_
@@ -51,13 +51,22 @@ valueAt [] p q = 0
 valueAt (k ∷ []) p q = bucketAt k p q
 valueAt (k ∷ j ∷ f) p q = min (bucketAt k p q) (valueAt (j ∷ f) p q)
 
--- What backlog, delay and the curve behind read of a curve at a tick, 0 included.
+-- What backlog, delay, the curve behind and the law of residual read of a curve: what may have come by a tick. At 0 that is the smallest
+-- burst, which may come at once; later it is the value.
 unfoldable pub reads : List Bucket → ℕ → ℕ
 reads f t = valueAt f t 1
 
--- value: what is answered for a tick. At 0 it is the smallest burst.
+-- value: what is answered for a tick. In no time nothing comes: at 0 it is 0.
 unfoldable pub value : List Bucket → ℕ → ℕ
-value f t = valueAt f t 1
+value f zero = 0
+value f (suc t) = valueAt f (suc t) 1
+
+-- burst: the smallest burst of a curve's buckets.
+pub record Burst (f : List Bucket) (n : ℕ) : Type 0 where
+  pub lowest : Bucket
+  pub inside : lowest ∈ f
+  pub reached : n ≡ lowest .burst
+  pub smallest : (k : Bucket) → k ∈ f → n ≤ k .burst
 
 -- Each bucket's rate is below those of the buckets before it.
 unfoldable pub Falling : List Bucket → Type 0

@@ -4,7 +4,7 @@ use mathlib.Core.Path.{_≡_}
 use mathlib.Core.Logic.{_⊎_}
 use mathlib.Core.List.{List}
 use Prim.Native.Nat.{ℕ, _^_, _≤_}
-use Rattle.meaning.specs.Curve.{buckets, curveOf, value, NormalOf, Lower, Sum, linkBucket, Shape}
+use Rattle.meaning.specs.Curve.{buckets, curveOf, value, Burst, NormalOf, Lower, Sum, linkBucket, Shape}
 use Rattle.meaning.specs.Refusal.{RANGE, Lines, _when_, _or_, rawLines, curveLines, Question, FigureOutcome}
 
 -- normalise takes any list of buckets, and is alone in that.
@@ -35,3 +35,7 @@ tickLine t = RANGE when (2 ^ 40 ≤ t)
 unfoldable pub ValueOutcome : List ℕ → ℕ → ℕ → ℕ → Type 0
 ValueOutcome f t code figure =
     FigureOutcome (curveLines f or tickLine t) (λ v. v ≡ value (curveOf f) t) code figure
+
+-- burst: the smallest burst of a curve.
+unfoldable pub BurstOutcome : List ℕ → ℕ → ℕ → Type 0
+BurstOutcome f code figure = FigureOutcome (curveLines f) (Burst (curveOf f)) code figure

@@ -1,10 +1,10 @@
--- The figures P1 to P12, as one table of the written definitions: proofs/Figures.antt proves it. A curve's numbers stand as in a
+-- The figures P1 to P12 and those of the requests, as one table of the written definitions: proofs/Figures.antt proves it. A curve's numbers stand as in a
 -- lent list, rate then burst for each bucket; what a file or the program's text holds stands as bytes.
 -- Assumes nothing.
 use mathlib.Core.Path.{_≡_}
 use mathlib.Core.List.{List, [], _∷_, _++_}
 use Prim.Native.Nat.{ℕ, _≤_, _<_}
-use Rattle.meaning.specs.Curve.{Bucket, buckets, listOf, valueAt, reads, NormalOf, Crossing, Sum}
+use Rattle.meaning.specs.Curve.{Bucket, buckets, listOf, valueAt, reads, value, Burst, NormalOf, Crossing, Sum}
 use Rattle.meaning.specs.Server.{Server, join, Behind, Backlog, Delay, Residual}
 use Rattle.meaning.specs.Refusal.{PartOutcome}
 use Rattle.meaning.specs.ServerQuestions.{passing, BacklogOutcome, DelayOutcome}
@@ -74,3 +74,11 @@ pub record Table : Type 0 where
       ≡ 0x11 ∷ 0x04 ∷ 0x00 ∷ 0x02 ∷ 0x80 ∷ 0x00 ∷ 0x00 ∷ 0x00 ∷ 0x00 ∷ 0x80 ∷ 0x00 ∷ 0x0c ∷ 0x00 ∷ 0x00 ∷ 0x00 ∷ 0x00 ∷ 0x50
       ∷ 0x12 ∷ 0x00 ∷ 0x00 ∷ 0x60 ∷ 0x00 ∷ 0x04
       ∷ 0x12 ∷ 0x00 ∷ 0x00 ∷ 0x50 ∷ 0x00 ∷ 0x02 ∷ [])
+  -- at tick 0 the value of C is 0, and its burst is 2; what carries nothing has burst 0; a burst that comes at once is held, and takes
+  -- a tick
+  pub at-once :
+      (value C 0 ≡ 0)
+      × Burst C 2
+      × Burst (buckets (0 ∷ 0 ∷ [])) 0
+      × Backlog (buckets (0 ∷ 5 ∷ [])) (port 10 0) 5
+      × Delay (buckets (0 ∷ 5 ∷ [])) (port 10 0) 1

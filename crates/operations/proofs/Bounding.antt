@@ -1,4 +1,4 @@
--- Backlog and delay from M, the greatest of value(s) - R·s, and their outcomes.
+-- Backlog and delay from M, the greatest of reads(s) - R·s, and their outcomes.
 -- Assumes nothing.
 use mathlib.Core.Path.{_≡_, refl, sym, _∙_, ap}
 use mathlib.Core.Bool.{Bool, true, false, true≢false}

@@ -1,4 +1,4 @@
--- The first bucket of rate at most R, and M, the greatest of value(s) - R·s: where it is reached, and which buckets have the value
+-- The first bucket of rate at most R, and M, the greatest of reads(s) - R·s: where it is reached, and which buckets have the value
 -- there.
 -- Assumes nothing.
 use mathlib.Core.Path.{_≡_, refl, sym, _∙_, ap}
@@ -17,7 +17,8 @@ use Rattle.meaning.specs.Computed.{excessAt}
 use Rattle.meaning.proofs.Lists.{append-each, at-inside, inside-at, falling-at}
 use Rattle.meaning.proofs.Order.{le-or-lt}
 use Rattle.meaning.proofs.curve.Value.{same-rate, same-bucket-at, value-unique}
-use Rattle.meaning.proofs.server.Excess.{burst-below, Turn, tick, before-lowest, first-lowest, turn-excess, starting-excess}
+use Rattle.meaning.proofs.curve.Reads.{burst-below}
+use Rattle.meaning.proofs.server.Excess.{Turn, tick, before-lowest, first-lowest, turn-excess, starting-excess}
 use Rattle.checks.specs.Contracts.{nth}
 use Rattle.checks.proofs.Buckets.{left-from}
 use Rattle.operations.specs.Contracts.{bucket, Tested, LeastOf, FirstSlow, tickOf}
@@ -111,7 +112,7 @@ module _ {f : List Bucket} {k : ℕ} (w : Tested f) (h : (0 < k) × (k < length 
 
 pub ruleset crossing = (crossing-burst, crossing-rate, crossing-some, crossing-tick)
 
--- ---- Where the greatest of value(s) - R·s is reached.
+-- ---- Where the greatest of reads(s) - R·s is reached.
 
 -- at tick 0, where no bucket is steeper than R
 starting : (f : List Bucket) {rate : ℕ} → NormalForm f → nth f 0 .rate ≤ rate → Excess f rate (nth f 0 .burst)

@@ -1,4 +1,4 @@
-// Backlog and delay of a curve at a server, neither of them refused, from M, the greatest of value(s) - R·s.
+// Backlog and delay of a curve at a server, neither of them refused, from M, the greatest of reads(s) - R·s.
 use crate::lowest::least_from;
 use crate::refusals::last_bucket;
 ghost use mathlib.Core.Path.{_≡_};
@@ -10,7 +10,7 @@ ghost use Rattle.checks.specs.Contracts.{Tells};
 ghost use Rattle.servers.specs.Contracts.{port};
 ghost use Rattle.operations.specs.Contracts.{Tested, TestedPort, FirstSlow};
 
-// The backlog is the value at 0 of the curve behind: the smaller of R·T + M and of the least b + r·T of the buckets of rate at most
+// The backlog is the burst of the curve behind: the smaller of R·T + M and of the least b + r·T of the buckets of rate at most
 // R, which begin at `first`.
 pub(crate) fn backlog_of(curve: &[u64], rate: u64, latency: u64, first: usize, excess: u64) -> u64
     requires { ⌜ TestedPort (curveOf (now curve)) rate latency ⌝ }

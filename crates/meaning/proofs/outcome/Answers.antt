@@ -13,11 +13,12 @@ use native.Mathlib.Omega.{arith}
 use lib.Dec.{lit≤}
 use lib.ListN.{length, take, drop, length-append, length-take, length-drop, drop-of-length-le}
 use lib.Seq.{take-all, take-at, drop-at, take-take, length-take-le}
-use Rattle.meaning.specs.Curve.{Bucket, buckets, width, curveOf, listOf, bucketAt, valueAt, value, NormalForm, NormalOf, pairs, linkBucket}
+use Rattle.meaning.specs.Curve.{Bucket, buckets, width, curveOf, listOf, bucketAt, valueAt, value, Burst, NormalForm, NormalOf, pairs, linkBucket}
 use Rattle.meaning.specs.Refusal.{Refusal, LIST, COUNT, RANGE, FORM, LARGE, ROOM, number, Lines, _or_, Wins, Clear, Verdict, accepted, rejected, AllInRange, listLines, rawLines, curveLines, TooLarge, over, Answered, Question, allLines, Outcome, part, PartOutcome, FigureOutcome}
-use Rattle.meaning.specs.CurveQuestions.{normalising, lowering, summing, shaping, ValueOutcome}
+use Rattle.meaning.specs.CurveQuestions.{normalising, lowering, summing, shaping, ValueOutcome, BurstOutcome}
 use Rattle.meaning.specs.Computed.{isNormal}
 use Rattle.meaning.proofs.Order.{le-or-lt, not-above, not-apart}
+use Rattle.meaning.proofs.curve.Reads.{one-burst}
 use Rattle.meaning.proofs.curve.Unique.{normal-of-unique}
 use Rattle.meaning.proofs.curve.Neighbours.{neighbours-sound}
 use Rattle.meaning.proofs.outcome.Stable.{range-stable, normal-stable}
@@ -86,12 +87,19 @@ one-sum f g = one-curve (summing f g) (single-normal (summing-asks f g))
 pub one-shape : (f : List ℕ) (d : ℕ) → OneOutcome (shaping f d)
 one-shape f d = one-curve (shaping f d) (single-normal (shaping-asks f d))
 
--- and value has one figure
+-- value has one figure,
 pub one-value :
     (f : List ℕ) (t : ℕ) {code figure code′ figure′ : ℕ}
     → ValueOutcome f t code figure → ValueOutcome f t code′ figure′ → (code ≡ code′) × (figure ≡ figure′)
 unfolding ValueOutcome
 one-value f t = one-figure (λ x y ex ey. ex ∙ sym ey)
+
+-- and burst has one
+pub one-burst-outcome :
+    (f : List ℕ) {code figure code′ figure′ : ℕ}
+    → BurstOutcome f code figure → BurstOutcome f code′ figure′ → (code ≡ code′) × (figure ≡ figure′)
+unfolding BurstOutcome
+one-burst-outcome f = one-figure (λ x y b c. one-burst b c)
 
 -- ---- The code.
 
@@ -378,6 +386,11 @@ figure-answered (FigureOutcome.answered clear e x) = (clear, x)
 pub value-answer : (f : List ℕ) (t : ℕ) {figure : ℕ} → ValueOutcome f t 0 figure → figure ≡ value (curveOf f) t
 unfolding ValueOutcome
 value-answer f t o = figure-answered o .1
+
+-- burst: the curve's smallest burst
+pub burst-answer : (f : List ℕ) {figure : ℕ} → BurstOutcome f 0 figure → Burst (curveOf f) figure
+unfolding BurstOutcome
+burst-answer f o = figure-answered o .1
 
 -- ---- The only answer.
 

@@ -11,13 +11,14 @@ use native.Mathlib.Decide.{decLe, ℕ-discrete}
 use native.Mathlib.Omega.{arith}
 use lib.ListN.{length, length-append}
 use lib.Dec.{lit≤}
-use Rattle.meaning.specs.Curve.{Bucket, buckets, width, curveOf, listOf, value, NormalOf, linkBucket}
+use Rattle.meaning.specs.Curve.{Bucket, buckets, width, curveOf, listOf, reads, value, NormalOf, linkBucket}
 use Rattle.meaning.specs.Server.{Server, noServer, join, last}
-use Rattle.meaning.specs.CurveQuestions.{normalising, lowering, summing, shaping, ValueOutcome}
+use Rattle.meaning.specs.CurveQuestions.{normalising, lowering, summing, shaping, ValueOutcome, BurstOutcome}
 use Rattle.meaning.specs.Refusal.{Refusal, LIST, COUNT, RANGE, FORM, UNBOUNDED, LARGE, number, Lines, _when_, _or_, Clear, Verdict, accepted, rejected, TooLarge, listLines, curveLines, Question, Outcome, part, PartOutcome, FigureOutcome, BytesQuestion, BytesOutcome}
 use Rattle.meaning.specs.ServerQuestions.{ServerInRange, serverLines, portLines, passing, BacklogOutcome, DelayOutcome, HopFigures, HopOutcome, HopPartOutcome, ServerOutcome, JoinOutcome, ResidualOutcome}
 use Rattle.meaning.specs.Computed.{earlier, normal, behind, backlog, delay, residual}
 use Rattle.meaning.proofs.Order.{le-or-lt, not-above}
+use Rattle.meaning.proofs.curve.Reads.{reads-at-zero}
 use Rattle.meaning.proofs.curve.Unique.{normal-of-unique}
 use Rattle.meaning.proofs.outcome.Stable.{decide-all-in-range, decide-server, decide-normal}
 use Rattle.meaning.proofs.curve.Normal.{normal-is}
@@ -25,7 +26,7 @@ use Rattle.meaning.proofs.curve.Curves.{pairs-length}
 use Rattle.meaning.proofs.server.Behind.{behind-is, backlog-is}
 use Rattle.meaning.proofs.server.Delay.{delay-is}
 use Rattle.meaning.proofs.server.Joining.{residual-is, residual-unique}
-use Rattle.meaning.proofs.outcome.Answers.{raw-some, both-form, list-up-to, curve-up-to, in-part}
+use Rattle.meaning.proofs.outcome.Answers.{raw-some, clear-form, both-form, list-up-to, curve-up-to, in-part}
 use Rattle.meaning.proofs.outcome.Demands.{hop-refused, hop-answered, port-form, port-server, port-bounded, single-behind, server-up-to, port-up-to, server-refused}
 use Rattle.meaning.proofs.outcome.Outcomes.{number-positive, Single, UpTo, up-to-or, up-to-when, line-hit, line-miss, clear-or, refused-then, verdict-or, refusal, refuse, too-large, no-room, written-out}
 use Rattle.meaning.proofs.outcome.Bytes.{refuse-bytes, no-room-bytes, filled-bytes}
@@ -279,11 +280,17 @@ shape-has-outcome f d before =
     (up-to-or (curve-up-to f) (up-to-when RANGE (lit≤ tt)))
     (λ clear. omega (arith, length-append (curveOf f) (linkBucket d ∷ [])))
 
--- value has one
+-- value has one,
 pub value-has-outcome : (f : List ℕ) (t : ℕ) → HasFigure (ValueOutcome f t)
 unfolding ValueOutcome
 value-has-outcome f t =
     figure-outcome (decide-or (curve-decided f) (decide-line RANGE (decLe (2 ^ 40) t))) (λ clear. (value (curveOf f) t, refl))
+
+-- and burst has
+pub burst-has-outcome : (f : List ℕ) → HasFigure (BurstOutcome f)
+unfolding BurstOutcome
+burst-has-outcome f =
+    figure-outcome (curve-decided f) (λ clear. (reads (curveOf f) 0, reads-at-zero (curveOf f) (clear-form f clear .some)))
 
 -- ---- The operations over servers.
 

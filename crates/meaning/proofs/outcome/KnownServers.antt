@@ -87,19 +87,19 @@ join-answered first second joined =
 
 -- ---- The curves of the figures.
 
-c-form : NormalForm C
+pub c-form : NormalForm C
 unfolding buckets isNormal
 c-form = neighbours-sound C refl
 
-c-fits : (length C ≤ 64) × EachInRange C
+pub c-fits : (length C ≤ 64) × EachInRange C
 unfolding buckets
 c-fits = omega arith
 
 -- one bucket
-abbrev one : ℕ → ℕ → List Bucket
+abbrev pub one : ℕ → ℕ → List Bucket
 one r b = buckets (r ∷ b ∷ [])
 
-one-form : (r b : ℕ) → NormalForm (one r b)
+pub one-form : (r b : ℕ) → NormalForm (one r b)
 unfolding buckets isNormal
 one-form r b = neighbours-sound (one r b) refl
 

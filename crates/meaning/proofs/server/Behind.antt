@@ -23,7 +23,7 @@ line-on :
     {r rate : ℕ} (b t u latency y : ℕ) → r ≤ rate → u ≤ y + latency → r * (t + u) + b ≤ rate * y + (r * (t + latency) + b)
 line-on {r} b t u latency y slow h = omega (arith, mul-le-mul-left r h, mul-le-mul-right y slow)
 
--- The cut of a curve by the line R·t + M, M the greatest of value(s) - R·s, read a latency after t.
+-- The cut of a curve by the line R·t + M, M the greatest of reads(s) - R·s, read a latency after t.
 abbrev cutLater : List Bucket → RateLatency → ℕ → ℕ → ℕ
 cutLater f s m t = cutAt f (s .rate) m (t + s .latency) 1
 
@@ -82,7 +82,7 @@ unfolding reads
 behind-greatest {f} {g} {s} has b t =
     rw (behind-cut b t 1 (omega arith), mul-one (s .latency)) (cut-gap f s (b .m) (b .excess) t has)
 
--- the backlog is the value behind at 0
+-- the backlog is the burst of the curve behind
 pub backlog-behind : {f g : List Bucket} {s : RateLatency} → 1 ≤ length f → Behind f s g → Backlog f s (reads g 0)
 backlog-behind has b = simp zero-add at (behind-greatest has b 0)
 

@@ -1,5 +1,5 @@
 -- The delay of a curve at a server: 0 for a curve that carries nothing by tick 1, and otherwise T + M/R, the quotient rounded up,
--- where M is the greatest of value(s) - R·s. With one tick less it fails: what is carried by tick 1 needs the latency, and the
+-- where M is the greatest of reads(s) - R·s. With one tick less it fails: what is carried by tick 1 needs the latency, and the
 -- tick at which M is reached needs the quotient besides.
 -- Assumes nothing.
 use mathlib.Core.Bool.{cond}
@@ -31,7 +31,7 @@ pub delay-of-nothing : (f : List Bucket) (s : RateLatency) → 1 ≤ length f �
 delay-of-nothing f s some none =
     record { suffices = λ t. omega (arith, carries-nothing f some none t); smallest = λ d enough. omega arith }
 
--- Any other curve, with M the greatest of value(s) - R·s, and x the quotient M/R rounded up:
+-- Any other curve, with M the greatest of reads(s) - R·s, and x the quotient M/R rounded up:
 module _
     (f : List Bucket) (s : RateLatency) {m : ℕ} (x : ℕ) (e : Excess f (s .rate) m) (rounded : Smallest (λ y. m ≤ s .rate * y) x)
   where

@@ -1,4 +1,4 @@
--- The greatest of value(s) - R·s over whole s: there is one, and it is known where it is reached. Where the first bucket's rate is
+-- The greatest of reads(s) - R·s over whole s: there is one, and it is known where it is reached. Where the first bucket's rate is
 -- at most R that is tick 0. Otherwise it is the whole tick up to the crossing with the first bucket of rate at most R, or the
 -- tick after: up to that tick the value is had by a bucket of rate above R, and from the tick after on by one of rate at most R.
 -- Assumes nothing.
@@ -19,13 +19,14 @@ use Rattle.meaning.proofs.Order.{le-or-lt, not-above, crosswise}
 use Rattle.meaning.proofs.Lists.{cons-each, append-each}
 use Rattle.meaning.proofs.curve.Value.{same-rate, same-bucket-at, value-least, value-unique, Reached, value-reached}
 use Rattle.meaning.proofs.server.Joining.{last-slowest}
-use Rattle.meaning.proofs.curve.Neighbours.{Meet, meet, meet-at, before-if-below, after-if-below, below-rises}
+use Rattle.meaning.proofs.curve.Neighbours.{Meet, meet, meet-at, before-if-below, after-if-below}
+use Rattle.meaning.proofs.curve.Reads.{below-other, burst-below, first-burst}
 
 -- the greatest gap is one number
 pub gap-unique : {a b : ℕ → ℕ} {m n : ℕ} → GreatestGap a b m → GreatestGap a b n → m ≡ n
 gap-unique g h = omega (arith, g .reached, h .reached, g .greatest (h .at), h .greatest (g .at))
 
--- Value minus R·tick is at tick s at most what it is at tick x.
+-- What is read less R·tick is at tick s at most what it is at tick x.
 abbrev pub NotAbove : List Bucket → ℕ → ℕ → ℕ → Type 0
 NotAbove f rate s x = reads f s + rate * x ≤ reads f x + rate * s
 
@@ -40,7 +41,7 @@ module _ {f : List Bucket} {rate x : ℕ} (r : Reached f x 1) where
   unfolding reads bucketAt
   falls-from flat s h = omega (arith, r .value-is, value-least f s 1 (r .inside), crosswise flat h)
 
--- Value minus R·tick is the number m at tick x or at the tick after.
+-- What is read less R·tick is the number m at tick x or at the tick after.
 abbrev pub AtOrAfter : List Bucket → ℕ → ℕ → ℕ → Type 0
 AtOrAfter f rate m x = (reads f x ≡ rate * x + m) ⊎ (reads f (x + 1) ≡ rate * (x + 1) + m)
 
@@ -89,16 +90,6 @@ module _ (k j : Bucket) (p q x : ℕ) (below : bucketAt k p q < bucketAt j p q) 
   -- and later, if j is the steeper
   later-below : k .rate ≤ j .rate → p ≤ x * q → bucketAt k x 1 < bucketAt j x 1
   later-below steep h = carried (omega (arith, crosswise steep h))
-
--- a useful bucket is at its time below each bucket of another rate
-below-other :
-    {f : List Bucket} {k j : Bucket} (u : Useful f k) → j ∈ f → (j .rate ≡ k .rate → ⊥)
-    → bucketAt k (u .p) (u .q) < bucketAt j (u .p) (u .q)
-below-other u m other = u .below _ m (λ e. other (same-rate e))
-
--- a useful bucket is lower at 0 than a flatter one
-pub burst-below : {f : List Bucket} {k j : Bucket} → Useful f k → j ∈ f → j .rate < k .rate → k .burst < j .burst
-burst-below {k = k} {j} u m h = below-rises k j (u .p) (u .q) (le-of-lt h) (below-other u m (omega arith))
 
 -- A useful bucket between a steeper and a flatter one:
 module _
@@ -266,20 +257,15 @@ find-turn rate passed before (k ∷ g) e steep slow =
 
 -- Where the first bucket's rate is at most R, and rates fall, tick 0 has the greatest.
 module _ {k : Bucket} {g : List Bucket} {rate : ℕ} (n : NormalForm (k ∷ g)) (slow : k .rate ≤ rate) where
-  -- the first bucket has the value at 0
+  -- the first bucket has what is read at 0
   first-has : Reached (k ∷ g) 0 1
-  unfolding bucketAt Falling
+  unfolding bucketAt
   first-has =
       record {
         bucket = k;
         inside = List·Memᴰ·head refl;
-        value-is = value-unique (k ∷ g) 0 1 least (List·Memᴰ·head refl) refl;
+        value-is = value-unique (k ∷ g) 0 1 (λ j i. omega (arith, first-burst n .smallest j i)) (List·Memᴰ·head refl) refl;
       }
-    where
-      least : (j : Bucket) → j ∈ (k ∷ g) → bucketAt k 0 1 ≤ bucketAt j 0 1
-      least =
-          cons-each (omega arith)
-          (λ j i. omega (arith, burst-below (n .useful k (List·Memᴰ·head refl)) (List·Memᴰ·tail i) (n .falling .0 j i)))
 
   start-value : reads (k ∷ g) 0 ≡ k .burst
   unfolding reads bucketAt first-has
@@ -310,7 +296,7 @@ kind (k ∷ g) rate some slow =
           turns-at (t .0) (rw (lt-leb (k .rate) rate h) (t .1))
     ]
 
--- the greatest of value(s) - R·s exists where the last rate is at most R, and the computed number is it
+-- the greatest of reads(s) - R·s exists where the last rate is at most R, and the computed number is it
 pub excess-is : {f : List Bucket} (rate : ℕ) → NormalForm f → last f .rate ≤ rate → Excess f rate (excess f rate)
 excess-is {f} rate n slow = cases n (kind f rate (n .some) slow)
   where

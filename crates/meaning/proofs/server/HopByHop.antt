@@ -17,6 +17,7 @@ use Rattle.meaning.specs.Curve.{Bucket, _∈_, bucketAt, valueAt, reads}
 use Rattle.meaning.specs.Server.{RateLatency, Instant, served, later, slower, join, Excess, Behind, Delay}
 use Rattle.meaning.proofs.Order.{le-or-lt, not-above, crosswise}
 use Rattle.meaning.proofs.curve.Value.{same-rate, value-least, value-reached, some, Reached}
+use Rattle.meaning.proofs.curve.Reads.{reads-rise}
 use Rattle.meaning.proofs.curve.Unique.{normal-inside, normal-of-unique}
 use Rattle.meaning.proofs.server.Excess.{gap-unique, NotAbove, falls-from, slow-bucket}
 use Rattle.meaning.proofs.server.Joining.{join-order}
@@ -72,13 +73,13 @@ module _ (f : List Bucket) (rate : ℕ) {k : Bucket} (m : k ∈ f) (slow : k .ra
             | inr h ↦ omega (arith, r .greatest (k .burst) (omega arith), no-growth u (le-of-lt h))
           ]
 
--- At no time is the curve above the line of that rate from its value at 0.
+-- At no time is the curve above the line of that rate from its burst.
 abbrev Flat : List Bucket → ℕ → Type 0
 Flat a rate = (p q : ℕ) → 0 < q → valueAt a p q ≤ rate * p + reads a 0 * q
 
 -- Such a curve, with its excess for that rate.
 module _ (a : List Bucket) (rate : ℕ) {m : ℕ} (filled : 1 ≤ length a) (e : Excess a rate m) (flat : Flat a rate) where
-  -- the excess is the value at 0
+  -- the excess is the burst
   flat-excess : reads a 0 ≡ rate * 0 + m
   unfolding reads
   flat-excess = omega (arith, e .reached, e .greatest 0, flat (e .at) 1 (omega arith))
@@ -88,7 +89,7 @@ module _ (a : List Bucket) (rate : ℕ) {m : ℕ} (filled : 1 ≤ length a) (e :
   cut-flat p q h =
       cut-late a rate m 0 flat-excess filled p q (omega arith) ∙ min-eq-left (omega (arith, flat p q h, ap (λ x. x * q) flat-excess))
 
--- a curve below a bucket seen a latency later, of that value at 0, is flat by any rate above the bucket's
+-- a curve below a bucket seen a latency later, of that burst, is flat by any rate above the bucket's
 below-bucket-flat :
     (a : List Bucket) (k : Bucket) (latency : ℕ) {rate : ℕ} → k .rate ≤ rate → reads a 0 ≡ bucketAt k (0 + latency * 1) 1
     → ((p q : ℕ) → 0 < q → valueAt a p q ≤ bucketAt k (p + latency * q) q) → Flat a rate
@@ -96,14 +97,14 @@ unfolding bucketAt
 below-bucket-flat a k latency slow start below p q h = omega (arith, below p q h, ap (λ x. x * q) start, mul-le-mul-right p slow)
 
 module _ {f a : List Bucket} {s : RateLatency} (b : Behind f s a) {rate : ℕ} where
-  -- a curve behind a server is flat by a rate if a bucket of no greater rate gives its value at 0
+  -- a curve behind a server is flat by a rate if a bucket of no greater rate gives its burst
   by-bucket-flat :
       {k : Bucket} → k ∈ f → k .rate ≤ s .rate → k .rate ≤ rate → reads a 0 ≡ bucketAt k (0 + s .latency * 1) 1 → Flat a rate
   by-bucket-flat {k} n slow flat start =
       below-bucket-flat a k (s .latency) flat start
       (λ p q h. le-trans (le-of-eq (behind-cut b p q h)) (cut-slow (s .rate) (b .m) (p + s .latency * q) q n slow))
 
-  -- and by every rate that is at least the server's, whatever gives that value
+  -- and by every rate that is at least the server's, whatever gives the burst
   server-flat : s .rate ≤ rate → Flat a rate
   unfolding reads bucketAt
   server-flat flat =
@@ -333,14 +334,7 @@ pub either-order :
 either-order {f} {h = h} {s} {next} filled first second other-first other-second =
     one-step-is-hop-by-hop filled first second (rw (join-order next s) at (hop-by-hop filled other-first other-second))
 
--- a curve does not fall
-reads-rise : (f : List Bucket) {t u : Instant} → 1 ≤ length f → t ≤ u → reads f t ≤ reads f u
-unfolding reads bucketAt
-reads-rise f {t} {u} filled h =
-    let r = value-reached f u 1 filled in
-    omega (arith, r .value-is, value-least f t 1 (r .inside), mul-le-mul-left (r .bucket .rate) h)
-
--- at no tick is it above what stands behind a server at any tick and what is served from a latency past that tick on
+-- at no tick is a curve above what stands behind a server at any tick and what is served from a latency past that tick on
 behind-above :
     {f a : List Bucket} {s : RateLatency} → 1 ≤ length f → Behind f s a → (v t : Instant)
     → reads f t ≤ reads a v + s .rate * (t - (v + s .latency))

@@ -17,7 +17,7 @@ unfolding bucketAt reads
 value-fits f {k} t inside ranged early =
     omega (arith, value-least f t 1 inside, ranged .rate-fits, ranged .burst-fits, mul-le-mul {n₁ = k .rate} {m₁ = t} {n₂ = 2 ^ 20} {m₂ = 2 ^ 40} (omega (arith, ranged .rate-fits)) (omega arith))
 
--- the greatest of value(s) - R·s is at most the burst of any bucket of rate at most R
+-- the greatest of reads(s) - R·s is at most the burst of any bucket of rate at most R
 pub excess-bound : (f : List Bucket) {rate m : ℕ} {k : Bucket} → k ∈ f → k .rate ≤ rate → Excess f rate m → m ≤ k .burst
 unfolding reads bucketAt
 excess-bound f inside slow e =

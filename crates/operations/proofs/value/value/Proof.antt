@@ -1,4 +1,4 @@
--- `value` gives the smaller of the refusals of its curve and its tick, or the curve's value there.
+-- `value` gives the smaller of the refusals of its curve and its tick, or nothing at 0, or the curve's value there.
 -- Assumes nothing.
 use borrow.Author.Needs.{needs}
 use Rattle.operations.proofs.Valuing.{value-outcomes}
@@ -12,6 +12,7 @@ value-spec =
     (λ c κs. search needs)
     (λ c κs. search needs)
     (λ c κs. search needs)
+    (λ c. search (value-outcomes, needs))
     (λ c. search (value-outcomes, needs))
     (λ c κs. search (value-outcomes, needs))
     (λ c. search (value-outcomes, needs)))
