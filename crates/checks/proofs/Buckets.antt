@@ -2,8 +2,7 @@
 -- left of them from an index on.
 -- Assumes nothing.
 use mathlib.Core.Path.{_≡_, refl, sym, _∙_, ap}
-use mathlib.Core.Logic.{_⊎_, inl, inr}
-use mathlib.Core.List.{List, [], _∷_, _++_, List·Memᴰ·head, List·Memᴰ·tail, List·Memᴰ·cases-cons}
+use mathlib.Core.List.{List, [], _∷_, _++_, List·Memᴰ·head, List·Memᴰ·tail}
 use Prim.Native.Nat.{ℕ, zero, suc, _+_, _*_, _/_, _%_, _≤_, _<_}
 use native.Mathlib.Numerals.{add-one, towards-suc, unary-clauses}
 use native.Mathlib.Omega.{arith}
@@ -59,28 +58,6 @@ bucket-inside (r ∷ b ∷ l) (suc zero) even h = absurd (omega arith)
 bucket-inside [] i even h = absurd (omega arith)
 bucket-inside (r ∷ []) i even h = absurd (omega arith)
 
--- Where a bucket stands in the flat list.
-pub record Place (l : List ℕ) (k : Bucket) : Type 0 where
-  pub index : ℕ
-  pub even : index % 2 ≡ 0
-  pub inside : index + 1 < length l
-  pub is : k ≡ bucket-at l index
-
--- two numbers in front
-further : {r b : ℕ} {l : List ℕ} {k : Bucket} → Place l k → Place (r ∷ b ∷ l) k
-further p = record { index = p .index + 2; even = omega arith; inside = omega arith; is = p .is ∙ simp towards-suc }
-
--- each bucket of the list stands at an even index
-pub bucket-place : (l : List ℕ) {k : Bucket} → k ∈ buckets l → Place l k
-unfolding buckets
-bucket-place [] m = elim m [ ]
-bucket-place (r ∷ []) m = elim m [ ]
-bucket-place (r ∷ b ∷ l) {k} m = split (λ n. bucket-place l n) (List·Memᴰ·cases-cons m)
-  where
-    split : (k ∈ buckets l → Place l k) → (k ≡ record { rate = r; burst = b }) ⊎ (k ∈ buckets l) → Place (r ∷ b ∷ l) k
-    split rest (inl e) = record { index = 0; even = refl; inside = omega arith; is = e }
-    split rest (inr n) = further (rest n)
-
 -- the bucket numbered n, from 0, is the one at 2 * n
 pub bucket-number :
     (l : List ℕ) (n : ℕ) (k : Bucket) → n < length (buckets l) → getD (buckets l) n k ≡ bucket-at l (2 * n)
@@ -126,14 +103,6 @@ buckets-passed (r ∷ b ∷ l) (suc (suc i)) even h =
 buckets-passed (r ∷ b ∷ l) (suc zero) even h = absurd (omega arith)
 buckets-passed [] i even h = absurd (omega arith)
 buckets-passed (r ∷ []) i even h = absurd (omega arith)
-
--- what is left from the bucket numbered n on
-pub buckets-drop : (l : List ℕ) (n : ℕ) → buckets (drop (2 * n) l) ≡ drop n (buckets l)
-unfolding buckets
-buckets-drop l zero = refl
-buckets-drop [] (suc n) = buckets-end [] (2 * suc n) (omega arith)
-buckets-drop (r ∷ []) (suc n) = buckets-end (r ∷ []) (2 * suc n) (omega arith)
-buckets-drop (r ∷ b ∷ l) (suc n) = simp unary-clauses (buckets-drop l n)
 
 -- ---- A curve's list, bucket by bucket.
 

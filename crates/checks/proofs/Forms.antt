@@ -1,7 +1,7 @@
 -- Normal form, tested by neighbours, step by step: what holds whenever the loop's test is reached is that the crossing passed
 -- last and the buckets left decide about the whole list; each way out gives the answer that follows.
 -- Assumes nothing.
-use mathlib.Core.Path.{_≡_, refl, sym, _∙_, ap}
+use mathlib.Core.Path.{_≡_, sym, _∙_, ap}
 use mathlib.Core.Bool.{Bool, true, false, _&&_}
 use mathlib.Core.List.{List}
 use Prim.Native.Nat.{ℕ, _+_, _-_, _*_, _^_, _≤_, _<_}

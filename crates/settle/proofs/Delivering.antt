@@ -1,15 +1,15 @@
 -- Buckets handed over as they stand, refusal by refusal, then the curve in the part of the table.
 -- Assumes nothing.
-use mathlib.Core.Path.{_≡_, refl, sym, _∙_, ap}
+use mathlib.Core.Path.{_≡_, refl, sym, _∙_}
 use mathlib.Core.Bool.{Bool, true, false, not}
 use mathlib.Core.Logic.{inl, inr, ⊎-elim}
-use mathlib.Core.List.{List, _++_}
+use mathlib.Core.List.{List}
 use Prim.Native.Nat.{ℕ, _/_, _%_, _≤_, _<_}
 use native.Mathlib.Omega.{arith}
 use borrow.Author.Tests.{not-true, not-false}
 use lib.Dec.{lit≤}
 use lib.ListN.{length}
-use Rattle.meaning.specs.Curve.{Bucket, buckets, listOf}
+use Rattle.meaning.specs.Curve.{buckets, listOf}
 use Rattle.meaning.specs.Refusal.{LIST, number, Clear, AllWithin, TooLarge, Uneven, over, Question, Outcome, part, PartOutcome}
 use Rattle.meaning.proofs.Lists.{buckets-use}
 use Rattle.meaning.proofs.outcome.Outcomes.{Single, Same, one-part-outcome, up-to-when, line-hit, three-parts, refuse-in-part, too-large, no-room, written-out}

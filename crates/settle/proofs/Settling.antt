@@ -1,23 +1,22 @@
 -- From raw buckets to the outcome in a part of a table: what the tests say one after the other, and the normal form that is
 -- chosen, handed over.
 -- Assumes nothing.
-use mathlib.Core.Path.{_≡_, refl, sym, _∙_, ap, subst}
+use mathlib.Core.Path.{_≡_, refl, sym, _∙_, ap}
 use mathlib.Core.Bool.{Bool, true, false, not}
 use mathlib.Core.Logic.{inl, inr, ⊎-elim}
 use mathlib.Core.List.{List}
-use Prim.Native.Nat.{ℕ, _+_, _*_, _%_, _≤_, _<_}
+use Prim.Native.Nat.{ℕ, _*_, _%_, _≤_, _<_}
 use native.Mathlib.Omega.{arith}
 use borrow.Author.Tests.{not-true, not-false}
 use lib.Dec.{lit≤}
-use lib.ListN.{length, take, drop}
-use lib.Seq.{length-take-le}
-use Rattle.meaning.specs.Curve.{Bucket, buckets, flat, NormalOf}
+use lib.ListN.{length, take}
+use Rattle.meaning.specs.Curve.{buckets}
 use Rattle.meaning.specs.Computed.{normal}
 use Rattle.meaning.specs.Refusal.{LIST, RANGE, number, _when_, Clear, Verdict, AllWithin, Uneven, PartOutcome}
 use Rattle.meaning.proofs.Order.{not-apart}
 use Rattle.meaning.proofs.curve.Unique.{normal-of-unique}
 use Rattle.meaning.proofs.curve.Normal.{normal-is}
-use Rattle.meaning.proofs.outcome.Outcomes.{Single, Same, one-part-outcome, from-when, up-to-when, up-to-or, line-hit, line-miss, clear-or, refused-first, refused-then, refuse-in-part, too-large, asked-so-in-part}
+use Rattle.meaning.proofs.outcome.Outcomes.{Single, Same, one-part-outcome, from-when, up-to-when, up-to-or, line-hit, line-miss, refused-first, refused-then, refuse-in-part, too-large, asked-so-in-part}
 use Rattle.checks.specs.Contracts.{Tells}
 use Rattle.settle.specs.Contracts.{AllWide, settling, delivering, Chose}
 use Rattle.checks.proofs.Checks.{passed}

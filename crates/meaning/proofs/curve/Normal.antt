@@ -158,7 +158,3 @@ chosen-among raw (k ∷ among) within =
 pub normal-is : (raw : List Bucket) → 1 ≤ length raw → NormalOf raw (normal raw)
 unfolding normal
 normal-is raw h = chosen-normal h (chosen-among raw raw (λ j m. m))
-
--- a list in normal form is its own
-pub normal-keeps : {f : List Bucket} → NormalForm f → NormalOf f f
-normal-keeps form = record { form = form; same = λ p q hq. refl }

@@ -279,15 +279,3 @@ useful-taken f c u = left-stays c everyTime f {p = u .p} {q = u .q} (omega (arit
 -- a bucket that the test refuses is not useful
 pub useful-complete : (f : List Bucket) (c : Bucket) → isUseful f c ≡ false → Useful f c → ⊥
 useful-complete f c n u = true≢false (sym (useful-taken f c u) ∙ n)
-
--- A step of the search:
-module _ (c : Bucket) (e : Ends) (j : Bucket) (f : List Bucket) where
-  -- where some time is left it goes on over the rest,
-  pub goes-on : isOpen (narrowed c j e) ≡ true → staysOpen c e (j ∷ f) ≡ staysOpen c (narrowed c j e) f
-  unfolding staysOpen
-  goes-on o = rw o
-
-  -- and otherwise it ends
-  pub ends : isOpen (narrowed c j e) ≡ false → staysOpen c e (j ∷ f) ≡ false
-  unfolding staysOpen
-  ends o = rw o

@@ -1,28 +1,26 @@
 -- What comes in no time: value at tick 0 answers 0, burst answers what may come at once, and backlog and delay count it. The figures as
 -- the only outcomes, and the wrong answers that they shut out.
 -- Assumes nothing.
-use mathlib.Core.Path.{_≡_, refl, sym, _∙_, ap}
-use mathlib.Core.List.{List, [], _∷_}
-use Prim.Native.Nat.{ℕ, zero, suc, _+_, _^_, _≤_, _<_}
+use mathlib.Core.Path.{_≡_, refl, sym, _∙_}
+use mathlib.Core.List.{List}
+use Prim.Native.Nat.{ℕ, zero, suc, _+_, _≤_}
 use native.Mathlib.Omega.{arith}
 use lib.Dec.{lit≤}
 use lib.ListN.{length}
 use Rattle.meaning.specs.Curve.{Bucket, buckets, curveOf, listOf, reads, value, valueAt, Burst, NormalForm}
 use Rattle.meaning.specs.Server.{Server, served, last, GreatestGap, Smallest}
-use Rattle.meaning.specs.Refusal.{Clear, curveLines, Outcome, FigureOutcome}
-use Rattle.meaning.specs.CurveQuestions.{tickLine, ValueOutcome, BurstOutcome}
+use Rattle.meaning.specs.Refusal.{Outcome, FigureOutcome}
+use Rattle.meaning.specs.CurveQuestions.{ValueOutcome, BurstOutcome}
 use Rattle.meaning.specs.ServerQuestions.{passing, BacklogOutcome, DelayOutcome}
-use Rattle.meaning.specs.Computed.{isNormal}
 use Rattle.meaning.specs.Figures.{C, port}
 use Rattle.meaning.proofs.Lists.{curve-list, EachInRange, all-in-range}
 use Rattle.meaning.proofs.Figures.{table}
 use Rattle.meaning.proofs.Readings.{served-late}
-use Rattle.meaning.proofs.curve.Neighbours.{neighbours-sound}
 use Rattle.meaning.proofs.curve.Reads.{reads-at-zero, reads-later, one-burst}
 use Rattle.meaning.proofs.server.Behind.{backlog-behind}
 use Rattle.meaning.proofs.server.Excess.{gap-unique}
 use Rattle.meaning.proofs.outcome.Outcomes.{clear-or}
-use Rattle.meaning.proofs.outcome.Answers.{clear-form, sound-clear, figure-answered, value-answer, burst-answer, one-value, one-burst-outcome, readBack}
+use Rattle.meaning.proofs.outcome.Answers.{clear-form, sound-clear, figure-answered, value-answer, one-value, one-burst-outcome, readBack}
 use Rattle.meaning.proofs.outcome.Demands.{answered-backlog, answered-behind, port-form}
 use Rattle.meaning.proofs.outcome.KnownServers.{OnlyFigure, only-backlog, only-delay, c-form, c-fits, one, one-form}
 

@@ -103,10 +103,6 @@ pub one-form : (r b : ℕ) → NormalForm (one r b)
 unfolding buckets isNormal
 one-form r b = neighbours-sound (one r b) refl
 
-one-fits : (r b : ℕ) → (r < 2 ^ 20) × (b < 2 ^ 40) → (length (one r b) ≤ 64) × EachInRange (one r b)
-unfolding buckets
-one-fits r b h = omega arith
-
 -- ---- P5: C behind (6,1) is (6,17),(3,23); backlog 17, delay 3.
 
 pub p5-outcome : OnlyAnswer (passing (listOf C) (port 6 1)) (listOf (buckets (6 ∷ 17 ∷ 3 ∷ 23 ∷ []))) 2

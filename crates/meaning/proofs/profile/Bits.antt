@@ -4,15 +4,13 @@ use mathlib.Core.Path.{_≡_, refl, sym, _∙_, ap}
 use mathlib.Core.Logic.{inl, inr, _≢_}
 use mathlib.Core.List.{List, [], _∷_, _++_, map, append-assoc, List·Memᴰ, List·Memᴰ·head, List·Memᴰ·tail, List·Memᴰ·cases-cons}
 use Prim.Native.Nat.{ℕ, zero, suc, _+_, _-_, _*_, _/_, _%_, _^_, _≤_, _<_}
-use native.Mathlib.Nat.{lt-of-lt-of-le, le-refl, mul-le-mul, mul-add-mod-self-left, mod-lt, mod-eq-of-lt, mod-one, mul-add-div-right, two-pow-succ}
+use native.Mathlib.Nat.{le-refl, mul-le-mul, mul-add-mod-self-left, mod-lt, mod-eq-of-lt, mod-one, mul-add-div-right, two-pow-succ}
 use native.Mathlib.Decide.{ℕ-discrete}
-use native.Mathlib.Numerals.{add-one}
 use native.Mathlib.Omega.{arith}
-use lib.ListN.{getD, length, take, drop, replicate, length-append, length-take, length-drop, take-append-drop}
+use lib.ListN.{getD, length, take, drop, replicate, length-append, length-drop, take-append-drop}
 use lib.Seq.{take-at, drop-at, length-take-le}
-use lib.Pow.{pow-pos, pow-mono, high, mod-pow-add}
+use lib.Pow.{pow-pos, high, mod-pow-add}
 use Rattle.meaning.specs.Profile.{bitsOf, spelt, Field, _bits_, packed, fileBits, bytesOf}
-use Rattle.meaning.proofs.Lists.{cons-each}
 
 -- Every number of the list is 0 or 1.
 abbrev pub Binary : List ℕ → Type 0
@@ -94,18 +92,6 @@ bits-taken w x rest = take-at (bitsOf w x) rest w (length-bits w x)
 
 pub bits-dropped : (w x : ℕ) (rest : List ℕ) → drop w (bitsOf w x ++ rest) ≡ rest
 bits-dropped w x rest = drop-at (bitsOf w x) rest w (length-bits w x)
-
--- one bit more doubles what the bits spell
-pub spelt-next : (l : List ℕ) (b : ℕ) → spelt (l ++ b ∷ []) ≡ spelt l * 2 + b
-unfolding spelt
-spelt-next [] b = omega arith
-spelt-next (x ∷ l) b =
-    omega (
-      arith,
-      spelt-next l b,
-      ap (λ (n : ℕ). x * 2 ^ n) (length-append l (b ∷ []) ∙ add-one (length l)),
-      ap (λ (y : ℕ). x * y) (two-pow-succ (length l)),
-    )
 
 -- the bit of a number at a position
 pub bit-of-number : (w x i : ℕ) → i < w → getD (bitsOf w x) i 0 ≡ x / 2 ^ (w - 1 - i) % 2
@@ -221,14 +207,3 @@ pub length-bytes : (n : ℕ) (l : List ℕ) → length (bytesOf n l) ≡ n
 unfolding bytesOf
 length-bytes zero l = refl
 length-bytes (suc n) l = ap suc (length-bytes n (drop 8 l))
-
--- eight bits spell a byte
-spelt-byte : (l : List ℕ) → Binary l → spelt (take 8 l) < 256
-spelt-byte l h =
-    lt-of-lt-of-le (spelt-fits (take 8 l) (binary-take 8 l h)) (pow-mono {j = 8} (omega (arith, length-take 8 l)))
-
--- so bits are made into bytes
-pub bytes-are-bytes : (n : ℕ) (l : List ℕ) → Binary l → Bytes (bytesOf n l)
-unfolding bytesOf
-bytes-are-bytes zero l h x m = elim m [ ]
-bytes-are-bytes (suc n) l h x m = cons-each (spelt-byte l h) (bytes-are-bytes n (drop 8 l) (binary-drop 8 l h)) x m

@@ -6,14 +6,13 @@ use mathlib.Core.Logic.{inl, inr}
 use mathlib.Core.List.{List, [], _∷_, _++_, append-assoc}
 use Prim.Native.Nat.{ℕ, suc, _+_, _-_, _*_, _/_, _%_, _^_, _≤_, _<_}
 use native.Mathlib.Nat.{lt-of-lt-of-le, add-zero}
-use native.Mathlib.Numerals.{add-one}
 use native.Mathlib.Omega.{arith}
 use lib.ListN.{List·getD-append, getD, length, take, drop, length-take, length-drop, take-append-drop}
-use lib.Seq.{take-suc, take-append-le, drop-append-le, getD-drop, getD-append-add, drop-drop}
+use lib.Seq.{take-append-le, drop-append-le, getD-append-add, drop-drop}
 use lib.Pow.{pow-mono}
 use Rattle.meaning.specs.Profile.{bitsOf, spelt, Field, _bits_, packed, fileBits, field}
 use Rattle.meaning.proofs.Order.{le-or-lt}
-use Rattle.meaning.proofs.profile.Bits.{binary-take, binary-drop, length-bits, spelt-fits, spelt-bits, bits-at, bits-taken, bits-dropped, spelt-next, bit-of-number, length-packed, binary-file, length-file-bits, file-bits-append}
+use Rattle.meaning.proofs.profile.Bits.{binary-take, binary-drop, length-bits, spelt-fits, spelt-bits, bits-at, bits-taken, bits-dropped, bit-of-number, length-packed, binary-file, length-file-bits, file-bits-append}
 
 -- The fields stand in a file one after the other, the first beginning at a bit.
 abbrev pub Stands : List ℕ → ℕ → List Field → Type 0
@@ -59,15 +58,6 @@ field-fits file at w =
     let l = take w (drop at (fileBits file)) in
     lt-of-lt-of-le (spelt-fits l (binary-take w (drop at (fileBits file)) (binary-drop at (fileBits file) (binary-file file))))
     (pow-mono (omega (arith, length-take w (drop at (fileBits file)))))
-
--- so a field of one bit more
-pub field-next :
-    (file : List ℕ) (at w : ℕ) → at + w < 8 * length file
-    → field file at (w + 1) ≡ field file at w * 2 + getD (fileBits file) (at + w) 0
-unfolding field
-field-next file at w h =
-    let inside : w < length (drop at (fileBits file)) = omega (arith, length-drop at (fileBits file), length-file-bits file) in
-    rw (add-one, take-suc (drop at (fileBits file)) w 0, spelt-next, getD-drop)
 
 -- a field that lies in a file is the same whatever stands behind the file
 pub field-append : (file rest : List ℕ) (at w : ℕ) → at + w ≤ 8 * length file → field (file ++ rest) at w ≡ field file at w

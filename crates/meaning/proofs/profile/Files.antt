@@ -18,7 +18,7 @@ use Rattle.meaning.specs.Profile.{spelt, packed, fileBits, curveKind, Pr
 use Rattle.meaning.proofs.Lists.{cons-each}
 use Rattle.meaning.proofs.curve.Lowest.{same-bucket}
 use Rattle.meaning.proofs.server.Joining.{same-server}
-use Rattle.meaning.proofs.profile.Bits.{Binary, binary-append, binary-drop, zeroBits, binary-zeros, length-packed, binary-packed, binary-file, length-file-bits, Bytes, bits-of-bytes, length-bytes, bytes-are-bytes}
+use Rattle.meaning.proofs.profile.Bits.{Binary, binary-append, binary-drop, zeroBits, binary-zeros, length-packed, binary-packed, binary-file, length-file-bits, bits-of-bytes, length-bytes}
 use Rattle.meaning.proofs.profile.Fields.{Stands, field-fits, field-append}
 
 -- ---- The file of a profile.
@@ -53,15 +53,10 @@ module _ (ed : ℕ) (p : Profile) where
   unfolding written
   written-length = length-bytes _ _
 
-  -- its bits are the profile's, then zero bits,
+  -- its bits are the profile's, then zero bits
   pub written-bits : fileBits (written ed p) ≡ padded ed p
   unfolding written
   written-bits = bits-of-bytes (byteCount ed p) (padded ed p) binary-padded length-padded
-
-  -- and it is bytes
-  pub written-bytes : Bytes (written ed p)
-  unfolding written
-  written-bytes = bytes-are-bytes (byteCount ed p) (padded ed p) binary-padded
 
 -- ---- How many bits and bytes.
 

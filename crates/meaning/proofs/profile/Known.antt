@@ -1,6 +1,6 @@
 -- Figure P11 as outcomes, and one input of each refusal of reading and writing: each is the only outcome.
 -- Assumes nothing.
-use mathlib.Core.Path.{_≡_, refl}
+use mathlib.Core.Path.{refl}
 use mathlib.Core.Logic.{inl, inr}
 use mathlib.Core.List.{List, [], _∷_, List·Memᴰ·head}
 use Prim.Native.Nat.{ℕ, _*_, _^_, _≤_, _<_}

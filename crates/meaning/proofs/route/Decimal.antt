@@ -67,10 +67,6 @@ each-front : (l : List ℕ) (c : ℕ) → AllDigits (l ++ c ∷ []) → AllDigit
 each-front [] c h = (tt, h .0, h .1)
 each-front (x ∷ l) c h = let rest = each-front l c (h .2) in ((h .0, h .1, rest .0), rest .1, rest .2)
 
--- what comes after does not change the first digit
-first-same : (x : ℕ) (l r : List ℕ) → getD ((x ∷ l) ++ r) 0 0 ≡ x
-first-same x l r = refl
-
 -- ---- What is printed is a decimal.
 
 -- the decimal of a number that is not 0, and one digit more

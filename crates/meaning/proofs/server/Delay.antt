@@ -2,7 +2,6 @@
 -- where M is the greatest of reads(s) - R·s. With one tick less it fails: what is carried by tick 1 needs the latency, and the
 -- tick at which M is reached needs the quotient besides.
 -- Assumes nothing.
-use mathlib.Core.Bool.{cond}
 use mathlib.Core.Path.{_≡_, ap}
 use mathlib.Core.List.{List}
 use Prim.Native.Nat.{ℕ, _+_, _-_, _*_, _≤_}

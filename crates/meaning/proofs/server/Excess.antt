@@ -2,7 +2,6 @@
 -- at most R that is tick 0. Otherwise it is the whole tick up to the crossing with the first bucket of rate at most R, or the
 -- tick after: up to that tick the value is had by a bucket of rate above R, and from the tick after on by one of rate at most R.
 -- Assumes nothing.
-use mathlib.Core.Bool.{cond}
 use mathlib.Core.Path.{_≡_, refl, sym, _∙_}
 use mathlib.Core.Logic.{_⊎_, inl, inr}
 use mathlib.Core.List.{List, [], _∷_, _++_, List·Memᴰ·head, List·Memᴰ·tail, List·Memᴰ·eq-of-singleton, Memᴰ·append-right}
