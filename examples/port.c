@@ -51,9 +51,12 @@ int main(void)
 
     show_curve("and no more than (8,4)", duchrelin_lower(flow, numbers, limit, 2, limited, DUCHRELIN_CURVE_NUMBERS), limited);
 
+    show_figure("comes at once", duchrelin_burst(flow, numbers), "bits");
     show_figure("waits at the first port, (6,1)", duchrelin_backlog(flow, numbers, 6, 1), "bits");
     show_figure("delay there", duchrelin_delay(flow, numbers, 6, 1), "ticks");
-    show_curve("behind it", duchrelin_behind(flow, numbers, 6, 1, onward, DUCHRELIN_CURVE_NUMBERS), onward);
+    duchrelin_answer behind = duchrelin_behind(flow, numbers, 6, 1, onward, DUCHRELIN_CURVE_NUMBERS);
+    show_curve("behind it", behind, onward);
+    show_figure("comes at once from there", duchrelin_burst(onward, DUCHRELIN_BUCKET_NUMBERS * behind.count), "bits");
 
     duchrelin_server both = duchrelin_join(6, 1, 5, 2);
     show_server("with the next port, (5,2)", both);
