@@ -109,7 +109,7 @@ typedef struct duchrelin_written {
     uint64_t bytes;
 } duchrelin_written;
 
-/* The normal form of a raw list: it has the raw list's value at every time. The raw buckets, 1 to 64, may stand in any order and repeat.
+/* The normal form of a raw list: it lets through the same at every time. The raw buckets, 1 to 64, may stand in any order and repeat.
  * Example: {3,20, 10,2, 10,2, 5,15, 3,25} gives count 2 and {10,2, 3,20}. */
 duchrelin_answer duchrelin_normalise(const uint64_t *raw, size_t raw_numbers, uint64_t *out, size_t out_numbers);
 
