@@ -135,7 +135,7 @@ pub p6-hop : OnlyHop (listOf C) (port 6 4) (listOf (buckets (3 ∷ 32 ∷ []))) 
 unfolding buckets last
 p6-hop = only-hop c-form c-fits (omega arith) (lit≤ tt) (table .p6 .0) (omega arith) (table .p6 .1) (table .p6 .2)
 
--- ---- P7: that behind (5,2) is (3,38); C behind the joined (5,6) is the same, delay 9, against 6 + 9.
+-- ---- P7: the next hop, at (5,2), leaves (3,38), and so does C at the two joined, (5,6); the delays are 6, 9, and joined 9.
 
 pub p7-outcome : OnlyAnswer (passing (listOf (buckets (3 ∷ 32 ∷ []))) (port 5 2)) (listOf (buckets (3 ∷ 38 ∷ []))) 1
 unfolding buckets last
@@ -158,7 +158,7 @@ pub p7-joined-delay : OnlyFigure (DelayOutcome (listOf C) (port 5 6)) 9
 unfolding buckets last
 p7-joined-delay = only-delay c-form c-fits (omega arith) (lit≤ tt) (table .p7 .3)
 
--- ---- P8: {(5,7)} behind (5,2) is (5,17), delay 4. {(6,7)} with that server: 8.
+-- ---- P8: at (5,2), {(5,7)} leaves (5,17) and has delay 4, and {(6,7)} is refused with 8.
 
 pub p8-outcome : OnlyAnswer (passing (listOf (buckets (5 ∷ 7 ∷ []))) (port 5 2)) (listOf (buckets (5 ∷ 17 ∷ []))) 1
 unfolding buckets last
@@ -224,7 +224,7 @@ p10-outcome code left o =
     right : Residual (curveOf (listOf C)) (port 6 1) (port 3 5)
     right = rw curve-list (table .p10)
 
--- ---- Join (1, 2^20-1) with (1,0) is answered; with (1,1): 9.
+-- ---- Joined at the end of the latencies: 2^20-1 and 0 are answered, 2^20-1 and 1 are refused with 9.
 
 pub join-longest : OnlyServer (JoinOutcome (port 1 (2 ^ 20 - 1)) (port 1 0)) 0 (port 1 (2 ^ 20 - 1))
 unfolding JoinOutcome join
