@@ -5,12 +5,13 @@ use operations::hops;
 use operations::ports;
 use operations::value;
 use servers::Server;
+ghost use Rattle.meaning.specs.Server.{port};
 ghost use Rattle.meaning.specs.Refusal.{Outcome};
 ghost use Rattle.meaning.specs.CurveQuestions.{normalising, lowering, summing, shaping, ValueOutcome, BurstOutcome};
 ghost use Rattle.meaning.specs.ServerQuestions.{JoinOutcome, passing, BacklogOutcome, DelayOutcome, ResidualOutcome};
 ghost use Rattle.meaning.specs.Profile.{ReadOutcome, WriteCurveOutcome, WriteServerOutcome};
 ghost use Rattle.meaning.specs.Route.{RouteOutcome};
-ghost use Rattle.duchrelin.specs.Contracts.{port, serverIn, readingIn};
+ghost use Rattle.duchrelin.specs.Contracts.{serverOf, readingOf};
 
 // A code, 0 for an answer, and the number of buckets, 0 for a refusal.
 #[repr(C)]
@@ -135,7 +136,7 @@ pub extern "C" fn duchrelin_join(
     next_rate: u64,
     next_latency: u64,
 ) -> duchrelin_server
-    ensures { λ r. ⌜ JoinOutcome (port rate latency) (port «next_rate» «next_latency») (r .code) (serverIn r) ⌝ }
+    ensures { λ r. ⌜ JoinOutcome (port rate latency) (port «next_rate» «next_latency») (r .code) (serverOf r) ⌝ }
 {
     let first = Server { rate, latency };
     let answer = first.join(Server {
@@ -194,7 +195,7 @@ pub extern "C" fn duchrelin_delay(curve: &[u64], rate: u64, latency: u64) -> duc
 // The server that is left beside cross traffic.
 #[no_mangle]
 pub extern "C" fn duchrelin_residual(rate: u64, latency: u64, cross: &[u64]) -> duchrelin_server
-    ensures { λ r. ⌜ ResidualOutcome (now (cross .entry)) (port rate latency) (r .code) (serverIn r) ⌝ }
+    ensures { λ r. ⌜ ResidualOutcome (now (cross .entry)) (port rate latency) (r .code) (serverOf r) ⌝ }
 {
     let answer = ports::residual(Server { rate, latency }, cross);
     let left = answer.server;
@@ -208,7 +209,7 @@ pub extern "C" fn duchrelin_residual(rate: u64, latency: u64, cross: &[u64]) -> 
 // The one profile that a file holds.
 #[no_mangle]
 pub extern "C" fn duchrelin_read(file: &[u8], out: &mut [u64]) -> duchrelin_profile
-    ensures { λ r. ⌜ ReadOutcome (now (file .entry)) (now (out .entry)) (now (out .exit)) (readingIn r) ⌝ }
+    ensures { λ r. ⌜ ReadOutcome (now (file .entry)) (now (out .entry)) (now (out .exit)) (readingOf r) ⌝ }
 {
     let answer = profiles::read(file, out);
     let server = answer.server;

@@ -6,12 +6,12 @@ use mathlib.Core.List.{[], _∷_}
 use native.Mathlib.Omega.{arith}
 use lib.Dec.{lit≤}
 use Rattle.meaning.specs.Curve.{buckets, flat, curveOf, listOf, valueAt, reads, value, pairs}
-use Rattle.meaning.specs.Server.{join, last}
+use Rattle.meaning.specs.Server.{join, last, port}
 use Rattle.meaning.specs.ServerQuestions.{BacklogOutcome, DelayOutcome}
 use Rattle.meaning.specs.Profile.{bitsOf, spelt, packed, bytesOf, bucketFields, fields, profileBits, byteCount, written}
 use Rattle.meaning.specs.Computed.{isNormal, normal, behind, backlog, delay, residual}
 use Rattle.meaning.specs.Route.{bytes, digits, numbers, hopText, routeText, hopTexts}
-use Rattle.meaning.specs.Figures.{C, port, Table}
+use Rattle.meaning.specs.Figures.{C, Table}
 use Rattle.meaning.proofs.curve.Neighbours.{neighbours-sound}
 use Rattle.meaning.proofs.curve.Reads.{first-burst}
 use Rattle.meaning.proofs.curve.Normal.{normal-is}

@@ -1,7 +1,7 @@
 -- Readings of the definitions, for a reader who has other words in mind. Normal form by positions: "every other bucket" is every
--- bucket at another position. A server serves nothing up to its latency, and its rate
--- by the tick from then on. A greatest gap is the greatest of the differences, each 0 where it would be negative. The crossing
--- numbered k is at the time (b_k - b_{k-1}) / (r_{k-1} - r_k). The byte counts of profile files.
+-- bucket at another position. A server serves nothing up to its latency, and its rate by the tick from then on. A greatest gap is
+-- the greatest of the differences, each 0 where it would be negative. The crossing numbered k is at the time
+-- (b_k - b_{k-1}) / (r_{k-1} - r_k). The byte counts of profile files.
 -- Assumes nothing.
 use mathlib.Core.Path.{_≡_, refl, sym, _∙_, ap}
 use mathlib.Core.Logic.{inl, inr, _↔_}

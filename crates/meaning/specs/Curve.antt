@@ -51,8 +51,8 @@ valueAt [] p q = 0
 valueAt (k ∷ []) p q = bucketAt k p q
 valueAt (k ∷ j ∷ f) p q = min (bucketAt k p q) (valueAt (j ∷ f) p q)
 
--- What backlog, delay, the curve behind and the law of residual read of a curve: what may have come by a tick. At 0 that is the smallest
--- burst, which may come at once; later it is the value.
+-- What backlog, delay, the curve behind and the law of residual read of a curve: what may have come by a tick. At 0 that is the
+-- smallest burst, which may come at once; later it is the value.
 unfoldable pub reads : List Bucket → ℕ → ℕ
 reads f t = valueAt f t 1
 

@@ -1,11 +1,11 @@
--- The figures P1 to P12 and those of the requests, as one table of the written definitions: proofs/Figures.antt proves it. A curve's numbers stand as in a
--- lent list, rate then burst for each bucket; what a file or the program's text holds stands as bytes.
+-- The figures P1 to P12 and those of the requests, as one table of the written definitions: proofs/Figures.antt proves it. A curve's
+-- numbers stand as in a lent list, rate then burst for each bucket; what a file or the program's text holds stands as bytes.
 -- Assumes nothing.
 use mathlib.Core.Path.{_≡_}
 use mathlib.Core.List.{List, [], _∷_, _++_}
 use Prim.Native.Nat.{ℕ, _≤_, _<_}
 use Rattle.meaning.specs.Curve.{Bucket, buckets, listOf, valueAt, reads, value, Burst, NormalOf, Crossing, Sum}
-use Rattle.meaning.specs.Server.{Server, join, Behind, Backlog, Delay, Residual}
+use Rattle.meaning.specs.Server.{port, join, Behind, Backlog, Delay, Residual}
 use Rattle.meaning.specs.Refusal.{PartOutcome}
 use Rattle.meaning.specs.ServerQuestions.{passing, BacklogOutcome, DelayOutcome}
 use Rattle.meaning.specs.Profile.{edition, curve, server, written}
@@ -14,10 +14,6 @@ use Rattle.meaning.specs.Route.{bytes, Route}
 -- The curve of most figures.
 abbrev pub C : List Bucket
 C = buckets (10 ∷ 2 ∷ 3 ∷ 20 ∷ [])
-
--- The server (rate, latency).
-abbrev pub port : ℕ → ℕ → Server
-port rate latency = record { rate = rate; latency = latency }
 
 -- A row for each figure of docs/SCOPE.md.
 pub record Table : Type 0 where
@@ -74,8 +70,8 @@ pub record Table : Type 0 where
       ≡ 0x11 ∷ 0x04 ∷ 0x00 ∷ 0x02 ∷ 0x80 ∷ 0x00 ∷ 0x00 ∷ 0x00 ∷ 0x00 ∷ 0x80 ∷ 0x00 ∷ 0x0c ∷ 0x00 ∷ 0x00 ∷ 0x00 ∷ 0x00 ∷ 0x50
       ∷ 0x12 ∷ 0x00 ∷ 0x00 ∷ 0x60 ∷ 0x00 ∷ 0x04
       ∷ 0x12 ∷ 0x00 ∷ 0x00 ∷ 0x50 ∷ 0x00 ∷ 0x02 ∷ [])
-  -- at tick 0 the value of C is 0, and its burst is 2; what carries nothing has burst 0; a burst that comes at once is held, and takes
-  -- a tick
+  -- at tick 0 the value of C is 0, and its burst is 2; what carries nothing has burst 0; a burst without a rate is held, and takes a
+  -- tick
   pub at-once :
       (value C 0 ≡ 0)
       × Burst C 2

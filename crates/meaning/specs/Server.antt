@@ -17,6 +17,10 @@ pub record RateLatency : Type 0 where
 abbrev pub Server : Type 0
 Server = RateLatency
 
+-- The server of a rate and a latency.
+abbrev pub port : ℕ → ℕ → Server
+port rate latency = record { rate = rate; latency = latency }
+
 -- The server of a refusal is (0, 0).
 abbrev pub noServer : Server
 noServer = record { rate = 0; latency = 0 }

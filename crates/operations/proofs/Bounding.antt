@@ -11,7 +11,7 @@ use mir.Syntax.{w64}
 use mir.Val.{Fits}
 use lib.ListN.{length}
 use Rattle.meaning.specs.Curve.{Bucket, _∈_, bucketAt, reads}
-use Rattle.meaning.specs.Server.{Excess, Backlog, Delay, last}
+use Rattle.meaning.specs.Server.{Excess, Backlog, Delay, last, port}
 use Rattle.meaning.specs.Computed.{roundedUp}
 use Rattle.meaning.proofs.Lists.{at-inside, inside-at, falling-at}
 use Rattle.meaning.proofs.Order.{le-or-lt}
@@ -22,7 +22,6 @@ use Rattle.meaning.proofs.server.Joining.{last-inside, last-slowest, rounded-up
 use Rattle.meaning.proofs.server.Delay.{delay-of-nothing, delay-from-excess}
 use Rattle.meaning.proofs.server.Sizes.{excess-bound}
 use Rattle.checks.specs.Contracts.{Tells}
-use Rattle.servers.specs.Contracts.{port}
 use Rattle.operations.specs.Contracts.{bucket, Tested, TestedPort, LeastOf, FirstSlow}
 use Rattle.operations.proofs.Turning.{nowhere, last-numbered, slow-from}
 

@@ -9,7 +9,7 @@ use mir.Syntax.{w64}
 use mir.Val.{Fits}
 use lib.Dec.{lit≤}
 use Rattle.meaning.specs.Curve.{Bucket, curveOf}
-use Rattle.meaning.specs.Server.{Server, noServer, last, Residual}
+use Rattle.meaning.specs.Server.{Server, noServer, last, Residual, port}
 use Rattle.meaning.specs.Computed.{roundedUp}
 use Rattle.meaning.specs.Refusal.{UNBOUNDED, LARGE, number, _when_, _or_, Clear, Verdict, accepted, curveLines}
 use Rattle.meaning.specs.ServerQuestions.{ServerInRange, serverLines, ServerOutcome, ResidualOutcome}
@@ -19,7 +19,6 @@ use Rattle.meaning.proofs.server.Joining.{last-inside, rounded-up-is, residual-
 use Rattle.meaning.proofs.outcome.Outcomes.{clear-or, line-hit, refused-then, refusal}
 use Rattle.meaning.proofs.outcome.Demands.{port-curve, port-server, port-bounded, port-up-to, server-refused}
 use Rattle.checks.proofs.Checks.{passed}
-use Rattle.servers.specs.Contracts.{port}
 use Rattle.operations.specs.Contracts.{bucket, Tested}
 use Rattle.operations.proofs.Valuing.{tested}
 

@@ -8,7 +8,7 @@ use native.Mathlib.Nat.{le-of-lt, mul-le-mul}
 use native.Mathlib.Omega.{arith}
 use lib.ListN.{length}
 use Rattle.meaning.specs.Curve.{Bucket, _∈_, flat, curveOf, NormalOf}
-use Rattle.meaning.specs.Server.{Server, noServer, later, slower, Excess, Behind, Backlog, Delay}
+use Rattle.meaning.specs.Server.{Server, noServer, later, slower, Excess, Behind, Backlog, Delay, port}
 use Rattle.meaning.specs.Refusal.{PartOutcome}
 use Rattle.meaning.specs.ServerQuestions.{passing, HopOutcome, HopPartOutcome}
 use Rattle.meaning.proofs.Lists.{at-inside, inside-at}
@@ -22,7 +22,6 @@ use Rattle.meaning.proofs.outcome.Demands.{hop-refused, hop-answered, port-up-t
 use Rattle.meaning.proofs.outcome.Slips.{refusal-keeps-table}
 use Rattle.checks.specs.Contracts.{nth}
 use Rattle.settle.specs.Contracts.{AllWide, settling}
-use Rattle.servers.specs.Contracts.{port}
 use Rattle.operations.specs.Contracts.{TestedPort, FirstSlow, Opened, lineAndLater}
 use Rattle.operations.proofs.Turning.{nowhere, slow-from}
 use Rattle.operations.proofs.Refusing.{port-clear}

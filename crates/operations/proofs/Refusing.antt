@@ -7,7 +7,7 @@ use native.Mathlib.Omega.{arith}
 use lib.Dec.{lit≤}
 use lib.ListN.{length}
 use Rattle.meaning.specs.Curve.{Bucket, curveOf}
-use Rattle.meaning.specs.Server.{last}
+use Rattle.meaning.specs.Server.{last, port}
 use Rattle.meaning.specs.Refusal.{UNBOUNDED, number, _when_, _or_, Clear, Verdict, curveLines}
 use Rattle.meaning.specs.ServerQuestions.{serverLines, portLines}
 use Rattle.meaning.proofs.Lists.{empty-is}
@@ -17,7 +17,6 @@ use Rattle.meaning.proofs.outcome.Answers.{curve-up-to}
 use Rattle.meaning.proofs.outcome.Demands.{server-up-to, port-curve, port-server, port-bounded}
 use Rattle.checks.specs.Contracts.{nth}
 use Rattle.checks.proofs.Checks.{passed}
-use Rattle.servers.specs.Contracts.{port}
 use Rattle.operations.specs.Contracts.{bucket, TestedPort}
 use Rattle.operations.proofs.Valuing.{tested}
 use Rattle.operations.proofs.Turning.{last-numbered}

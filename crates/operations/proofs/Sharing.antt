@@ -5,11 +5,10 @@ use mathlib.Core.List.{List, []}
 use Prim.Native.Nat.{ℕ, _^_, _≤_, _<_}
 use native.Mathlib.Omega.{arith}
 use Rattle.meaning.specs.Curve.{curveOf}
-use Rattle.meaning.specs.Server.{Excess, Backlog, Delay, last}
+use Rattle.meaning.specs.Server.{Excess, Backlog, Delay, last, port}
 use Rattle.meaning.specs.Refusal.{Verdict, FigureOutcome}
 use Rattle.meaning.specs.ServerQuestions.{portLines, BacklogOutcome, DelayOutcome}
 use Rattle.meaning.proofs.outcome.Outcomes.{refusal}
-use Rattle.servers.specs.Contracts.{port}
 use Rattle.operations.specs.Contracts.{Tested, TestedPort, FirstSlow, Opened}
 use Rattle.operations.proofs.Refusing.{port-clear, tested-port}
 

@@ -8,10 +8,10 @@ use lib.Dec.{leb, ltb}
 use lib.ListN.{length, drop}
 use Rattle.meaning.specs.Curve.{Bucket, curveOf, bucketAt, NormalForm}
 use Rattle.meaning.specs.Refusal.{AllInRange, Verdict}
-use Rattle.meaning.specs.Server.{noServer, Excess, later, last}
+use Rattle.meaning.specs.Server.{noServer, Excess, later, last, port}
 use Rattle.meaning.specs.ServerQuestions.{ServerInRange, portLines}
 use Rattle.checks.specs.Contracts.{nth}
-use Rattle.servers.specs.Contracts.{port, serverOf}
+use Rattle.servers.specs.Contracts.{serverOf}
 use Rattle.operations.specs.declared.gather.Next.{Next}
 use Rattle.operations.specs.declared.hops.Hop.{Hop}
 

@@ -4,10 +4,9 @@ use crate::refusals::last_bucket;
 ghost use mathlib.Core.Path.{_≡_};
 ghost use Prim.Native.Nat.{_≤_, _<_, _^_};
 ghost use Rattle.meaning.specs.Curve.{curveOf, reads};
-ghost use Rattle.meaning.specs.Server.{Excess, Backlog, Delay};
+ghost use Rattle.meaning.specs.Server.{Excess, Backlog, Delay, port};
 ghost use Rattle.meaning.specs.Computed.{roundedUp};
 ghost use Rattle.checks.specs.Contracts.{Tells};
-ghost use Rattle.servers.specs.Contracts.{port};
 ghost use Rattle.operations.specs.Contracts.{Tested, TestedPort, FirstSlow};
 
 // The backlog is the burst of the curve behind: the smaller of R·T + M and of the least b + r·T of the buckets of rate at most

@@ -55,8 +55,8 @@ fn tick_of(curve: &[u64], k: usize) -> u64
     (here.burst - before.burst) / (before.rate - here.rate)
 }
 
-// M, where `first` is the first bucket of rate at most R. What is read less R·s rises up to its crossing with the bucket before it and falls
-// after it: M is had at the whole tick up to the crossing or at the next. At the one the value is that of a bucket before
+// M, where `first` is the first bucket of rate at most R. What is read less R·s rises up to its crossing with the bucket before it
+// and falls after it: M is had at the whole tick up to the crossing or at the next. What is read at the one is of a bucket before
 // `first`, at the other of one from `first` on.
 pub(crate) fn excess(curve: &[u64], rate: u64, first: usize) -> u64
     requires { ⌜ Tested (curveOf (now curve)) ⌝ }

@@ -16,7 +16,7 @@ use Rattle.meaning.proofs.outcome.Demands.{server-up-to}
 use Rattle.meaning.proofs.outcome.Bytes.{one-bytes, refuse-bytes, no-room-bytes, filled-bytes}
 use Rattle.checks.proofs.Checks.{passed, curve-ranged, curve-some, curve-few}
 use Rattle.servers.proofs.Joins.{server-ranged}
-use Rattle.servers.specs.Contracts.{port}
+use Rattle.meaning.specs.Server.{port}
 use Rattle.profiles.specs.Contracts.{PackableServer, serverBytes, PackableCurve, curveBytes, handing}
 
 -- ---- Bytes as they are.

@@ -1,6 +1,6 @@
 -- Profiles packed field after field: the bytes are the profile's file.
 -- Assumes nothing.
-use Rattle.servers.specs.Contracts.{port}
+use Rattle.meaning.specs.Server.{port}
 use mathlib.Core.Path.{_≡_, refl, sym, _∙_, ap, ap₂}
 use mathlib.Core.List.{List, [], _∷_, _++_, append-assoc, append-nil}
 use Prim.Native.Nat.{ℕ, zero, suc, _+_, _-_, _*_, _/_, _%_, _^_, _≤_, _<_}

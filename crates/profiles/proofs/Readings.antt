@@ -1,6 +1,5 @@
 -- What comes of reading a file: refused for its frame, or a server, or a curve whose buckets were decoded and are handed over.
 -- Assumes nothing.
-use Rattle.servers.specs.Contracts.{port}
 use mathlib.Core.Path.{_≡_, refl, sym, _∙_, ap, subst}
 use mathlib.Core.Logic.{inl, inr, _≢_}
 use mathlib.Core.List.{List, []}
@@ -9,7 +8,7 @@ use native.Mathlib.Omega.{arith}
 use lib.Dec.{lit≤}
 use lib.ListN.{length, take}
 use Rattle.meaning.specs.Curve.{Bucket, flat, curveOf, listOf}
-use Rattle.meaning.specs.Server.{noServer}
+use Rattle.meaning.specs.Server.{noServer, port}
 use Rattle.meaning.specs.ServerQuestions.{serverLines}
 use Rattle.meaning.specs.Refusal.{Refusal, number, Lines, Clear, Verdict, accepted, rejected, Uneven, curveLines, TooLarge, over, allLines, part, PartOutcome}
 use Rattle.meaning.specs.Profile.{Profile, curve, server, field, bucketsIn, kindIn, profileOf, profileLines, fileLines, bucketsOf, reading, Reading, ReadOutcome, ReadPartOutcome}

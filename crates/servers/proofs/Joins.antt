@@ -8,14 +8,13 @@ use lib.Dec.{lit≤}
 use mir.Syntax.{w64}
 use mir.Val.{Fits}
 use Rattle.meaning.specs.Refusal.{RANGE, LARGE, number, _or_, Clear, Verdict, accepted}
-use Rattle.meaning.specs.Server.{Server, noServer, join}
+use Rattle.meaning.specs.Server.{Server, noServer, join, port}
 use Rattle.meaning.specs.ServerQuestions.{ServerInRange, serverLines, ServerOutcome, JoinOutcome}
 use Rattle.meaning.specs.Computed.{earlier}
 use Rattle.meaning.proofs.outcome.Stable.{server-stable}
 use Rattle.meaning.proofs.outcome.Outcomes.{up-to-or, clear-or, line-hit, line-miss, verdict-or, refused-then, refusal}
 use Rattle.meaning.proofs.outcome.Demands.{server-up-to, server-refused}
 use Rattle.checks.proofs.Checks.{passed, clear-first, clear-second}
-use Rattle.servers.specs.Contracts.{port}
 
 -- ---- The test of a server.
 

@@ -2,13 +2,9 @@
 -- Assumes nothing.
 use mathlib.Core.Path.{_≡_}
 use Prim.Native.Nat.{ℕ}
-use Rattle.meaning.specs.Server.{Server, noServer}
+use Rattle.meaning.specs.Server.{Server, noServer, port}
 use Rattle.servers.specs.declared.Server as held-server
 use Rattle.servers.specs.declared.ServerAnswer.{ServerAnswer}
-
--- The server of two numbers.
-abbrev pub port : ℕ → ℕ → Server
-port rate latency = record { rate = rate; latency = latency }
 
 -- The server that code holds.
 abbrev pub serverOf : held-server.Server → Server

@@ -1,5 +1,5 @@
--- What is read of a curve at a tick: at 0 its burst, and later its value, which itself is 0 at 0. The burst of a curve in normal form is
--- the first bucket's.
+-- What is read of a curve at a tick: at 0 its burst, and later its value, which itself is 0 at 0. The burst of a curve in normal form
+-- is the first bucket's.
 -- Assumes nothing.
 use mathlib.Core.Path.{_≡_, refl}
 use mathlib.Core.List.{List, _∷_, List·Memᴰ·head, List·Memᴰ·tail}

@@ -1,5 +1,5 @@
--- What comes in no time: value at tick 0 answers 0, burst answers what may come at once, and backlog and delay count it. The figures as
--- the only outcomes, and the wrong answers that they shut out.
+-- What comes in no time: value at tick 0 answers 0, burst answers what may come at once, and backlog and delay count it. The figures
+-- as the only outcomes, and the wrong answers that they shut out.
 -- Assumes nothing.
 use mathlib.Core.Path.{_≡_, refl, sym, _∙_}
 use mathlib.Core.List.{List}
@@ -8,11 +8,11 @@ use native.Mathlib.Omega.{arith}
 use lib.Dec.{lit≤}
 use lib.ListN.{length}
 use Rattle.meaning.specs.Curve.{Bucket, buckets, curveOf, listOf, reads, value, valueAt, Burst, NormalForm}
-use Rattle.meaning.specs.Server.{Server, served, last, GreatestGap, Smallest}
+use Rattle.meaning.specs.Server.{Server, served, last, GreatestGap, Smallest, port}
 use Rattle.meaning.specs.Refusal.{Outcome, FigureOutcome}
 use Rattle.meaning.specs.CurveQuestions.{ValueOutcome, BurstOutcome}
 use Rattle.meaning.specs.ServerQuestions.{passing, BacklogOutcome, DelayOutcome}
-use Rattle.meaning.specs.Figures.{C, port}
+use Rattle.meaning.specs.Figures.{C}
 use Rattle.meaning.proofs.Lists.{curve-list, EachInRange, all-in-range}
 use Rattle.meaning.proofs.Figures.{table}
 use Rattle.meaning.proofs.Readings.{served-late}

@@ -81,19 +81,35 @@ port-decided f s broken = decide-or (decide-or (curve-decided f) (server-decided
 
 -- ---- Outcomes.
 
--- There is an outcome, over this lent list.
-pub record HasOutcome (ask : Question) (before : List ℕ) : Type 0 where
+-- There is what is lent afterwards, a code and a count.
+pub record HasLent (Of : List ℕ → ℕ → ℕ → Type 0) : Type 0 where
   pub after : List ℕ
   pub code : ℕ
   pub count : ℕ
-  pub outcome : Outcome ask before after code count
+  pub outcome : Of after code count
 
--- There is one, over this part of a table.
-pub record HasPart (ask : Question) (at room : ℕ) (before : List ℕ) : Type 0 where
-  pub after : List ℕ
-  pub code : ℕ
-  pub count : ℕ
-  pub outcome : PartOutcome ask at room before after code count
+-- There is an outcome, over this lent list,
+abbrev pub HasOutcome : Question → List ℕ → Type 0
+HasOutcome ask before = HasLent (Outcome ask before)
+
+-- over this part of a table,
+abbrev pub HasPart : Question → ℕ → ℕ → List ℕ → Type 0
+HasPart ask at room before = HasLent (PartOutcome ask at room before)
+
+-- or over this lent buffer.
+abbrev pub HasBytes : BytesQuestion → List ℕ → Type 0
+HasBytes ask before = HasLent (BytesOutcome ask before)
+
+-- an outcome that is at hand: of a curve,
+so-curve :
+    {ask : Question} {before after : List ℕ} {code count : ℕ} → Outcome ask before after code count → HasOutcome ask before
+so-curve o = record { after = _; code = _; count = _; outcome = o }
+
+-- and of bytes
+so-bytes :
+    {ask : BytesQuestion} {before after : List ℕ} {code count : ℕ} → BytesOutcome ask before after code count
+    → HasBytes ask before
+so-bytes o = record { after = _; code = _; count = _; outcome = o }
 
 -- where every list has one, so has every part of a table
 pub part-outcome :
@@ -119,42 +135,23 @@ record HasReport (f : List ℕ) (s : Server) (code : ℕ) : Type 0 where
   through : Server
   figures : HopFigures f s code backlog delay through
 
--- There is an outcome of a hop, over this lent list.
-pub record HasHop (f : List ℕ) (s : Server) (before : List ℕ) : Type 0 where
+-- There is what is lent after a hop, its code and count, and what it reports.
+pub record HasHopOf (Of : List ℕ → ℕ → ℕ → ℕ → ℕ → Server → Type 0) : Type 0 where
   pub after : List ℕ
   pub code : ℕ
   pub count : ℕ
   pub backlog : ℕ
   pub delay : ℕ
   pub through : Server
-  pub outcome : HopOutcome f s before after code count backlog delay through
+  pub outcome : Of after code count backlog delay through
 
--- There is one, over this part of a table.
-pub record HasHopPart (f : List ℕ) (s : Server) (at room : ℕ) (before : List ℕ) : Type 0 where
-  pub after : List ℕ
-  pub code : ℕ
-  pub count : ℕ
-  pub backlog : ℕ
-  pub delay : ℕ
-  pub through : Server
-  pub outcome : HopPartOutcome f s at room before after code count backlog delay through
+-- There is an outcome of a hop, over this lent list,
+abbrev pub HasHop : List ℕ → Server → List ℕ → Type 0
+HasHop f s before = HasHopOf (HopOutcome f s before)
 
--- There is an outcome, over this lent buffer.
-pub record HasBytes (ask : BytesQuestion) (before : List ℕ) : Type 0 where
-  pub after : List ℕ
-  pub code : ℕ
-  pub count : ℕ
-  pub outcome : BytesOutcome ask before after code count
-
--- an outcome that is at hand
-so-curve :
-    {ask : Question} {before after : List ℕ} {code count : ℕ} → Outcome ask before after code count → HasOutcome ask before
-so-curve o = record { after = _; code = _; count = _; outcome = o }
-
-so-bytes :
-    {ask : BytesQuestion} {before after : List ℕ} {code count : ℕ} → BytesOutcome ask before after code count
-    → HasBytes ask before
-so-bytes o = record { after = _; code = _; count = _; outcome = o }
+-- or over this part of a table.
+abbrev pub HasHopPart : List ℕ → Server → ℕ → ℕ → List ℕ → Type 0
+HasHopPart f s at room before = HasHopOf (HopPartOutcome f s at room before)
 
 -- A question whose operands can be decided, and which has a single exact answer where none is refused, has an outcome.
 pub curve-outcome :
@@ -363,16 +360,15 @@ module _ (f : List ℕ) (s : Server) where
   -- and over every part of a table;
   pub hop-has-part : (at room : ℕ) (before : List ℕ) → HasHopPart f s at room before
   hop-has-part at room before =
-      let o = behind-has-outcome (part at room before) in
-      let report = hop-report (o .outcome) in
+      let o = hop-has-outcome (part at room before) in
       record {
         after = _;
         code = o .code;
         count = o .count;
-        backlog = _;
-        delay = _;
-        through = _;
-        outcome = record { curve = in-part (o .outcome); figures = report .figures };
+        backlog = o .backlog;
+        delay = o .delay;
+        through = o .through;
+        outcome = record { curve = in-part (o .outcome .curve); figures = o .outcome .figures };
       }
 
   -- residual has one,

@@ -7,11 +7,11 @@ use native.Mathlib.Omega.{arith}
 use lib.Dec.{lit≤}
 use lib.ListN.{length}
 use Rattle.meaning.specs.Curve.{Bucket, buckets, curveOf, listOf, NormalForm}
-use Rattle.meaning.specs.Server.{Server, noServer, join, last, Behind, Backlog, Delay, Residual}
+use Rattle.meaning.specs.Server.{Server, noServer, join, last, Behind, Backlog, Delay, Residual, port}
 use Rattle.meaning.specs.Refusal.{LARGE, number, Clear, accepted, curveLines, over, Outcome, FigureOutcome}
 use Rattle.meaning.specs.ServerQuestions.{ServerInRange, portLines, passing, BacklogOutcome, DelayOutcome, HopOutcome, ServerOutcome, JoinOutcome, ResidualOutcome}
 use Rattle.meaning.specs.Computed.{isNormal}
-use Rattle.meaning.specs.Figures.{C, port}
+use Rattle.meaning.specs.Figures.{C}
 use Rattle.meaning.proofs.Lists.{curve-list, EachInRange, all-in-range}
 use Rattle.meaning.proofs.Figures.{table}
 use Rattle.meaning.proofs.curve.Neighbours.{neighbours-sound}

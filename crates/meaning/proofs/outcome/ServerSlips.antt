@@ -9,11 +9,11 @@ use native.Mathlib.Omega.{arith}
 use lib.Dec.{lit≤}
 use lib.ListN.{length, take, getD}
 use Rattle.meaning.specs.Curve.{Bucket, buckets, flat, curveOf, listOf, NormalForm, reads, valueAt}
-use Rattle.meaning.specs.Server.{Server, join, last, slower}
+use Rattle.meaning.specs.Server.{Server, join, last, slower, port}
 use Rattle.meaning.specs.Refusal.{Clear, curveLines, over, Question, Outcome}
 use Rattle.meaning.specs.ServerQuestions.{ServerInRange, portLines, passing, BacklogOutcome, DelayOutcome, JoinOutcome, ResidualOutcome}
 use Rattle.meaning.specs.Computed.{isNormal, normal, behind, backlog}
-use Rattle.meaning.specs.Figures.{C, port}
+use Rattle.meaning.specs.Figures.{C}
 use Rattle.meaning.proofs.Lists.{over-start}
 use Rattle.meaning.proofs.curve.Neighbours.{neighbours-sound}
 use Rattle.meaning.proofs.server.Behind.{behind-is, backlog-is}

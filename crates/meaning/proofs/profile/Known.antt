@@ -10,7 +10,7 @@ use lib.ListN.{length, replicate, length-replicate}
 use Rattle.meaning.specs.Curve.{buckets, flat, width, curveOf, listOf}
 use Rattle.meaning.specs.Refusal.{RANGE, FORM, number}
 use Rattle.meaning.specs.Computed.{isNormal}
-use Rattle.meaning.specs.Figures.{port}
+use Rattle.meaning.specs.Server.{port}
 use Rattle.meaning.specs.Profile.{Reading, ReadOutcome, bitsOf, spelt, packed, fileBits, bytesOf, curve, server, bucketFields, fields, profileBits, byteCount, written, field, bucketsIn, editionOf, kindIn, profileOf, bytesTaken, padding, WriteCurveOutcome}
 use Rattle.meaning.proofs.Lists.{curve-use, all-in-range}
 use Rattle.meaning.proofs.curve.Neighbours.{neighbours-sound, neighbours-refute}

@@ -9,8 +9,7 @@ use native.Mathlib.Omega.{arith}
 use lib.Dec.{lit≤}
 use lib.ListN.{length, take}
 use Rattle.meaning.specs.Curve.{buckets, listOf}
-use Rattle.meaning.specs.Server.{Server}
-use Rattle.meaning.specs.Figures.{port}
+use Rattle.meaning.specs.Server.{Server, port}
 use Rattle.meaning.specs.Refusal.{Clear, over}
 use Rattle.meaning.specs.Profile.{Profile, server, kindOf, padding, fileLines, bucketsOf, serverIn, Reading, ReadOutcome, WriteCurveOutcome, WriteServerOutcome}
 use Rattle.meaning.proofs.Lists.{over-start}

@@ -10,13 +10,13 @@ use native.Mathlib.Omega.{arith}
 use lib.Dec.{lit≤}
 use lib.ListN.{length, take, drop, length-append}
 use Rattle.meaning.specs.Curve.{Bucket, buckets, reads, valueAt}
-use Rattle.meaning.specs.Server.{Server, join, last, Behind, Backlog, Delay}
+use Rattle.meaning.specs.Server.{Server, join, last, Behind, Backlog, Delay, port}
 use Rattle.meaning.specs.Refusal.{Clear}
 use Rattle.meaning.specs.ServerQuestions.{ServerInRange}
 use Rattle.meaning.specs.Profile.{edition, curveKind, curve, server, written, kindIn}
 use Rattle.meaning.specs.Computed.{normal, behind, backlog, delay}
 use Rattle.meaning.specs.Route.{joinLines, bytes, digits, numbers, hopText, routeText, refusedText, hopTexts, Figures}
-use Rattle.meaning.specs.Figures.{C, port}
+use Rattle.meaning.specs.Figures.{C}
 use Rattle.meaning.proofs.Figures.{c-sound, table}
 use Rattle.meaning.proofs.profile.Files.{server-bytes, curve-taken, server-taken}
 use Rattle.meaning.proofs.profile.RoundTrip.{read-back-server}

@@ -9,10 +9,10 @@ use native.Mathlib.Omega.{arith}
 use lib.Dec.{lit≤}
 use lib.ListN.{length, take, getD}
 use Rattle.meaning.specs.Curve.{Bucket, buckets, reads, valueAt}
-use Rattle.meaning.specs.Server.{last}
+use Rattle.meaning.specs.Server.{last, port}
 use Rattle.meaning.specs.Computed.{normal, behind, backlog, delay}
 use Rattle.meaning.specs.Profile.{edition, curve, server, written}
-use Rattle.meaning.specs.Figures.{C, port}
+use Rattle.meaning.specs.Figures.{C}
 use Rattle.meaning.specs.Route.{bytes, digits, numbers, hopText, hopTexts, Route}
 use Rattle.meaning.proofs.Figures.{c-sound}
 use Rattle.meaning.proofs.profile.Known.{idle-file}

@@ -126,7 +126,7 @@ shares :
     {r y : ℕ} (rest r' b x u : ℕ) → r ≡ rest + r' → y ≡ x + u → b ≤ r * x → rest * u + (r' * u + b * 1) ≤ r * y
 shares {r} rest r' b x u e e' enough = rw (e, e') (omega (arith, rw e at enough))
 
--- past the latency of the server left: what it has served, and the cross curve's value since, are within what the whole one has
+-- past the latency of the server left: what it has served, and what the cross curve lets come since, are within what the whole one has
 pub residual-law :
     {cross : List Bucket} {s left : RateLatency} → 1 ≤ length cross → Residual cross s left → last cross .rate < s .rate → (t : ℕ)
     → left .latency ≤ t → served left t + reads cross (t - left .latency) ≤ s .rate * (t - s .latency)
