@@ -1,6 +1,5 @@
 -- What C passes and gets, as the definitions have it.
 -- Assumes nothing.
-use Prim.Native.Nat.{ℕ}
 use Rattle.meaning.specs.Server.{Server, port}
 use Rattle.meaning.specs.Profile.{Reading}
 use Rattle.duchrelin.specs.declared.duchrelin_server.{«duchrelin_server»}
