@@ -61,7 +61,7 @@ static void sum(const struct library *l, const struct input *i, struct outcome *
 
 static void shape(const struct library *l, const struct input *i, struct outcome *o)
 {
-    keep_answer(o, l->shape(i->f, i->f_numbers, i->link_rate, o->list, CURVE_NUMBERS));
+    keep_answer(o, l->shape(i->f, i->f_numbers, i->link_rate, i->frame, o->list, CURVE_NUMBERS));
 }
 
 static void join(const struct library *l, const struct input *i, struct outcome *o)

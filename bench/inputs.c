@@ -75,6 +75,10 @@ void make_one_curve(struct input *input, size_t buckets, uint64_t seed)
     input->f_numbers = draw_curve(input->f, buckets, 0, &seed);
     input->tick = draw(&seed, (1 + buckets) * MOST_PAUSE / 2);
     input->link_rate = draw_rate_within(input, &seed);
+    size_t first = 0; /* of the buckets that are no steeper than the link */
+    while (input->f[first] > input->link_rate)
+        first += 2;
+    input->frame = draw(&seed, input->f[first + 1]);
 }
 
 static void swap(uint64_t *a, uint64_t *b)

@@ -44,13 +44,6 @@ static duchrelin_answer idle_lower(const uint64_t *f, size_t f_numbers, const ui
     return (duchrelin_answer){ 0 };
 }
 
-static duchrelin_answer idle_shape(const uint64_t *curve, size_t curve_numbers, uint64_t link_rate,
-                                   uint64_t *out, size_t out_numbers)
-{
-    (void)curve, (void)curve_numbers, (void)link_rate, (void)out, (void)out_numbers;
-    return (duchrelin_answer){ 0 };
-}
-
 static duchrelin_server idle_join(uint64_t rate, uint64_t latency, uint64_t next_rate, uint64_t next_latency)
 {
     (void)rate, (void)latency, (void)next_rate, (void)next_latency;
@@ -101,6 +94,6 @@ static duchrelin_written idle_route(const uint8_t *input, size_t input_bytes, ui
 }
 
 const struct library idle_library = {
-    idle_normalise, idle_value, idle_burst, idle_lower, idle_lower, idle_shape, idle_join, idle_behind, idle_backlog, idle_backlog,
+    idle_normalise, idle_value, idle_burst, idle_lower, idle_lower, idle_behind, idle_join, idle_behind, idle_backlog, idle_backlog,
     idle_residual, idle_read, idle_write_curve, idle_write_server, idle_route,
 };

@@ -10,7 +10,7 @@ struct library {
     duchrelin_figure (*burst)(const uint64_t *, size_t);
     duchrelin_answer (*lower)(const uint64_t *, size_t, const uint64_t *, size_t, uint64_t *, size_t);
     duchrelin_answer (*sum)(const uint64_t *, size_t, const uint64_t *, size_t, uint64_t *, size_t);
-    duchrelin_answer (*shape)(const uint64_t *, size_t, uint64_t, uint64_t *, size_t);
+    duchrelin_answer (*shape)(const uint64_t *, size_t, uint64_t, uint64_t, uint64_t *, size_t);
     duchrelin_server (*join)(uint64_t, uint64_t, uint64_t, uint64_t);
     duchrelin_answer (*behind)(const uint64_t *, size_t, uint64_t, uint64_t, uint64_t *, size_t);
     duchrelin_figure (*backlog)(const uint64_t *, size_t, uint64_t, uint64_t);

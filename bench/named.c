@@ -162,12 +162,13 @@ duchrelin_answer named_sum(const uint64_t *f, size_t f_numbers, const uint64_t *
     return settle(raw, count, out, out_numbers);
 }
 
-duchrelin_answer named_shape(const uint64_t *curve, size_t curve_numbers, uint64_t link_rate, uint64_t *out, size_t out_numbers)
+duchrelin_answer named_shape(const uint64_t *curve, size_t curve_numbers, uint64_t rate, uint64_t frame,
+                             uint64_t *out, size_t out_numbers)
 {
-    uint64_t code = smaller_code(curve_refusal(curve, curve_numbers), link_refusal(link_rate));
+    uint64_t code = smaller_code(curve_refusal(curve, curve_numbers), link_refusal(rate, frame));
     if (code != 0)
         return refused_answer(code);
-    uint64_t link[2] = { link_rate, 0 };
+    uint64_t link[2] = { rate, frame };
     return settle_both(curve, curve_numbers, link, 2, out, out_numbers);
 }
 

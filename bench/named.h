@@ -15,7 +15,8 @@ duchrelin_answer named_lower(const uint64_t *f, size_t f_numbers, const uint64_t
                              uint64_t *out, size_t out_numbers);
 duchrelin_answer named_sum(const uint64_t *f, size_t f_numbers, const uint64_t *g, size_t g_numbers,
                            uint64_t *out, size_t out_numbers);
-duchrelin_answer named_shape(const uint64_t *curve, size_t curve_numbers, uint64_t link_rate, uint64_t *out, size_t out_numbers);
+duchrelin_answer named_shape(const uint64_t *curve, size_t curve_numbers, uint64_t rate, uint64_t frame,
+                             uint64_t *out, size_t out_numbers);
 duchrelin_answer named_behind(const uint64_t *curve, size_t curve_numbers, uint64_t rate, uint64_t latency,
                               uint64_t *out, size_t out_numbers);
 duchrelin_profile named_read(const uint8_t *file, size_t file_bytes, uint64_t *out, size_t out_numbers);

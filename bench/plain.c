@@ -233,29 +233,44 @@ duchrelin_figure plain_burst(const uint64_t *curve, size_t curve_numbers)
     return code != 0 ? refused_figure(code) : (duchrelin_figure){ .code = 0, .figure = burst_of(curve, 0) };
 }
 
-/* The link's bucket lies below every bucket that is as steep or steeper, and covers some of the others together with the one that
- * follows them. Only a bucket of burst 0, which can but be the first, lies below the link's. */
-duchrelin_answer plain_shape(const uint64_t *curve, size_t curve_numbers, uint64_t link_rate, uint64_t *out, size_t out_numbers)
+/* Whether the middle one of three buckets, by falling rates and rising bursts, is covered by the other two together. */
+static bool covered(const uint64_t *steeper, const uint64_t *middle, const uint64_t *flatter)
 {
-    uint64_t code = smaller_code(curve_refusal(curve, curve_numbers), link_refusal(link_rate));
+    return (middle[1] - steeper[1]) * (middle[0] - flatter[0]) >= (flatter[1] - middle[1]) * (steeper[0] - middle[0]);
+}
+
+/* The link's bucket comes between the steeper and the flatter ones, `before` and from `after` on; one of its own rate makes way. It is
+ * of no use where one that is as flat or flatter has no more at once, or its neighbours cover it. Otherwise it covers buckets on both
+ * sides, next to it first. */
+duchrelin_answer plain_shape(const uint64_t *curve, size_t curve_numbers, uint64_t rate, uint64_t frame,
+                             uint64_t *out, size_t out_numbers)
+{
+    uint64_t code = smaller_code(curve_refusal(curve, curve_numbers), link_refusal(rate, frame));
     if (code != 0)
         return refused_answer(code);
     size_t count = curve_numbers / 2;
-    if (rate_of(curve, 0) <= link_rate && burst_of(curve, 0) == 0)
+    const uint64_t link[2] = { rate, frame };
+    size_t before = first_within(curve, count, rate), after = before;
+    if (after < count && burst_of(curve, after) <= frame)
         return placed(curve, count, out, out_numbers);
-    size_t first = first_within(curve, count, link_rate - 1);
-    while (first + 1 < count
-           && burst_of(curve, first) * fall_after(curve, first) >= rise_after(curve, first) * (link_rate - rate_of(curve, first)))
-        first++;
-    size_t kept = count - first;
-    if (1 + kept > MOST_BUCKETS)
+    after += after < count && rate_of(curve, after) == rate;
+    while (before > 0 && burst_of(curve, before - 1) >= frame)
+        before--;
+    if (before > 0 && after < count && covered(curve + 2 * (before - 1), link, curve + 2 * after))
+        return placed(curve, count, out, out_numbers);
+    while (before > 1 && covered(curve + 2 * (before - 2), curve + 2 * (before - 1), link))
+        before--;
+    while (after + 1 < count && covered(link, curve + 2 * after, curve + 2 * (after + 1)))
+        after++;
+    size_t kept = before + 1 + (count - after);
+    if (kept > MOST_BUCKETS)
         return refused_answer(DUCHRELIN_LARGE);
-    if (out_numbers < 2 * (1 + kept))
+    if (out_numbers < 2 * kept)
         return refused_answer(DUCHRELIN_ROOM);
-    out[0] = link_rate;
-    out[1] = 0;
-    memcpy(out + 2, curve + 2 * first, 2 * kept * sizeof *out);
-    return (duchrelin_answer){ .code = 0, .count = 1 + kept };
+    memcpy(out, curve, 2 * before * sizeof *out);
+    memcpy(out + 2 * before, link, sizeof link);
+    memcpy(out + 2 * (before + 1), curve + 2 * after, 2 * (count - after) * sizeof *out);
+    return (duchrelin_answer){ .code = 0, .count = kept };
 }
 
 /*

@@ -15,7 +15,8 @@ duchrelin_answer plain_lower(const uint64_t *f, size_t f_numbers, const uint64_t
                              uint64_t *out, size_t out_numbers);
 duchrelin_answer plain_sum(const uint64_t *f, size_t f_numbers, const uint64_t *g, size_t g_numbers,
                            uint64_t *out, size_t out_numbers);
-duchrelin_answer plain_shape(const uint64_t *curve, size_t curve_numbers, uint64_t link_rate, uint64_t *out, size_t out_numbers);
+duchrelin_answer plain_shape(const uint64_t *curve, size_t curve_numbers, uint64_t rate, uint64_t frame,
+                             uint64_t *out, size_t out_numbers);
 duchrelin_server plain_join(uint64_t rate, uint64_t latency, uint64_t next_rate, uint64_t next_latency);
 duchrelin_answer plain_behind(const uint64_t *curve, size_t curve_numbers, uint64_t rate, uint64_t latency,
                               uint64_t *out, size_t out_numbers);

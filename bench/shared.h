@@ -91,11 +91,17 @@ static inline uint64_t curves_refusal(const uint64_t *f, size_t f_numbers, const
     return smaller_code(curve_refusal(f, f_numbers), curve_refusal(g, g_numbers));
 }
 
-static inline uint64_t link_refusal(uint64_t rate) { return rate == 0 || rate >= RATE_END ? DUCHRELIN_RANGE : 0; }
+/* A rate that is not 0, as servers and links have one, and with it a latency or a longest frame. */
+static inline uint64_t rate_refusal(uint64_t rate) { return rate == 0 || rate >= RATE_END ? DUCHRELIN_RANGE : 0; }
 
 static inline uint64_t server_refusal(uint64_t rate, uint64_t latency)
 {
-    return latency >= RATE_END ? DUCHRELIN_RANGE : link_refusal(rate);
+    return latency >= RATE_END ? DUCHRELIN_RANGE : rate_refusal(rate);
+}
+
+static inline uint64_t link_refusal(uint64_t rate, uint64_t frame)
+{
+    return frame >= BURST_END ? DUCHRELIN_RANGE : rate_refusal(rate);
 }
 
 static inline uint64_t last_rate(const uint64_t *curve, size_t numbers) { return curve[numbers - 2]; }

@@ -44,7 +44,7 @@ enum {
     DUCHRELIN_PAD = 3,       /* a padding bit is 1 */
     DUCHRELIN_LIST = 4,      /* a list of buckets without a number, or with an odd number of them */
     DUCHRELIN_COUNT = 5,     /* a curve list has over 64 buckets; a route has over 32 servers */
-    DUCHRELIN_RANGE = 6,     /* a number out of its range: of a bucket, of a server, a tick, a link's rate */
+    DUCHRELIN_RANGE = 6,     /* a number out of its range: of a bucket, of a server, a tick, a link's rate or frame */
     DUCHRELIN_FORM = 7,      /* a curve is not in normal form */
     DUCHRELIN_UNBOUNDED = 8, /* the curve's last rate is too large for the server */
     DUCHRELIN_LARGE = 9,     /* the exact answer would have more than 64 buckets, or a number out of range */
@@ -69,11 +69,13 @@ enum {
     DUCHRELIN_INPUT_BYTES = 675
 };
 
-/* Ends of ranges: a rate, a burst, a latency and a tick are below these. (A server's rate and a link's rate are at least 1.) */
+/* Ends of ranges: a rate, a burst, a latency, a tick and a link's longest frame are below these. (A server's rate and a link's rate are
+ * at least 1.) */
 #define DUCHRELIN_RATE_END (UINT64_C(1) << 20)
 #define DUCHRELIN_BURST_END (UINT64_C(1) << 40)
 #define DUCHRELIN_LATENCY_END (UINT64_C(1) << 20)
 #define DUCHRELIN_TICK_END (UINT64_C(1) << 40)
+#define DUCHRELIN_FRAME_END (UINT64_C(1) << 40)
 
 /* A code, and the count of buckets of the curve in the output list. */
 typedef struct duchrelin_answer {
@@ -131,9 +133,11 @@ duchrelin_answer duchrelin_lower(const uint64_t *f, size_t f_numbers, const uint
 duchrelin_answer duchrelin_sum(const uint64_t *f, size_t f_numbers, const uint64_t *g, size_t g_numbers,
                                uint64_t *out, size_t out_numbers);
 
-/* The curve shaped by a link of rate 1 to 2^20-1: the lower of the curve and the bucket (link_rate, 0).
- * Example: {3,20} and a link of rate 10 give count 2 and {10,0, 3,20}. */
-duchrelin_answer duchrelin_shape(const uint64_t *curve, size_t curve_numbers, uint64_t link_rate,
+/* The curve shaped by a link: the lower of the curve and the bucket (rate, frame). The rate is the link's, 1 to 2^20-1 bits a tick; the
+ * frame is the longest that the link carries, 0 to 2^40-1 bits, as its far end hands a frame on when the last bit is in, all of it at
+ * once. A frame of 0 is for a link that hands on bit by bit; one that is too short makes figures too small, one that is too long never.
+ * Example: {3,20} by a link of rate 10 with frames of 2 bits gives count 2 and {10,2, 3,20}; with frames of 0, {10,0, 3,20}. */
+duchrelin_answer duchrelin_shape(const uint64_t *curve, size_t curve_numbers, uint64_t rate, uint64_t frame,
                                  uint64_t *out, size_t out_numbers);
 
 /* The server that joins the next one: the smaller rate, the latencies added.

@@ -220,44 +220,82 @@ static void adding(void)
     sum_refuses("sum, 64 buckets and two more that cross elsewhere", full_stairs(), CURVE(1, 0, 0, 100), 9);
 }
 
-static void shape_gives(const char *name, list f, uint64_t rate, list answer)
+static void shape_gives(const char *name, list f, uint64_t rate, uint64_t frame, list answer)
 {
     test(name);
-    gives(shape(f, rate), curve_answer(answer));
+    gives(shape(f, rate, frame), curve_answer(answer));
 }
 
-static void shape_refuses(const char *name, list f, uint64_t rate, uint64_t code)
+static void shape_refuses(const char *name, list f, uint64_t rate, uint64_t frame, uint64_t code)
 {
     test(name);
-    refuses(shape(f, rate), code);
+    refuses(shape(f, rate, frame), code);
 }
 
-static void shaping(void)
+static void shaping_bit_by_bit(void)
 {
-    shape_gives("shape C by 10", C, 10, CURVE(10, 0, 3, 20));
-    shape_gives("shape C by 11", C, 11, CURVE(11, 0, 10, 2, 3, 20));
-    shape_gives("shape {(3,20)} by 3", CURVE(3, 20), 3, CURVE(3, 0));
-    shape_gives("shape {(3,20)} by 1", CURVE(3, 20), 1, CURVE(1, 0));
-    shape_gives("shape {(0,0)} by 5", CURVE(0, 0), 5, CURVE(0, 0));
-    shape_gives("shape {(5,0)} by 9", CURVE(5, 0), 9, CURVE(5, 0));
+    shape_gives("shape C by 10", C, 10, 0, CURVE(10, 0, 3, 20));
+    shape_gives("shape C by 11", C, 11, 0, CURVE(11, 0, 10, 2, 3, 20));
+    shape_gives("shape {(3,20)} by 3", CURVE(3, 20), 3, 0, CURVE(3, 0));
+    shape_gives("shape {(3,20)} by 1", CURVE(3, 20), 1, 0, CURVE(1, 0));
+    shape_gives("shape {(0,0)} by 5", CURVE(0, 0), 5, 0, CURVE(0, 0));
+    shape_gives("shape {(5,0)} by 9", CURVE(5, 0), 9, 0, CURVE(5, 0));
     /* (12,0) meets (3,18) at 2, where (10,4) is 24 too. */
-    shape_gives("shape, three meet", CURVE(10, 4, 3, 18), 12, CURVE(12, 0, 3, 18));
-    shape_refuses("shape by 0", C, 0, 6);
-    shape_gives("shape C by 1", C, 1, CURVE(1, 0));
-    shape_gives("shape C by 2^20-1", C, RATE_END - 1, CURVE(RATE_END - 1, 0, 10, 2, 3, 20));
-    shape_refuses("shape by 2^20", C, RATE_END, 6);
-    shape_refuses("shape by the greatest number", C, MOST, 6);
-    shape_gives("shape, rate 2^20-1 and burst 2^40-1", CURVE(RATE_END - 1, BURST_END - 1), 7, CURVE(7, 0));
-    shape_gives("shape, 64 buckets by the first's rate", full_stairs(), 63, full_stairs());
+    shape_gives("shape, three meet", CURVE(10, 4, 3, 18), 12, 0, CURVE(12, 0, 3, 18));
+    shape_gives("shape C by 1", C, 1, 0, CURVE(1, 0));
+    shape_gives("shape C by 2^20-1", C, RATE_END - 1, 0, CURVE(RATE_END - 1, 0, 10, 2, 3, 20));
+    shape_gives("shape, rate 2^20-1 and burst 2^40-1", CURVE(RATE_END - 1, BURST_END - 1), 7, 0, CURVE(7, 0));
+    shape_gives("shape, 64 buckets by the first's rate", full_stairs(), 63, 0, full_stairs());
     /* Bucket 0 of the stairs is (64, 0): a link of that rate before buckets 1 to 63 gives 64 buckets. */
-    shape_gives("shape, 64 buckets of 63 and the link", stairs(64, 1, 1, 63), 64, stairs(64, 0, 1, 64));
-    shape_refuses("shape, 65 buckets of 64 and the link", stairs(64, 1, 1, 64), 64, 9);
+    shape_gives("shape, 64 buckets of 63 and the link", stairs(64, 1, 1, 63), 64, 0, stairs(64, 0, 1, 64));
+    shape_refuses("shape, 65 buckets of 64 and the link", stairs(64, 1, 1, 64), 64, 0, 9);
+}
 
-    shape_refuses("shape, LIST before the link's RANGE", NONE, 0, 4);
-    shape_refuses("shape, COUNT before the link's RANGE", stairs(64, 0, 1, 65), RATE_END, 5);
-    shape_refuses("shape, RANGE of the curve and of the link", CURVE(RATE_END, 0), 0, 6);
-    shape_refuses("shape, the link's RANGE before FORM", CURVE(3, 20, 10, 2), 0, 6);
-    shape_refuses("shape, FORM before LARGE", turned(stairs(64, 1, 1, 64)), 64, 7);
+static void shaping_by_frames(void)
+{
+    shape_gives("frames: the link's bucket is there already", C, 10, 2, C);
+    shape_gives("frames: one bit less than the burst", C, 10, 1, CURVE(10, 1, 3, 20));
+    shape_gives("frames: one bit more than the burst", C, 10, 3, C);
+    shape_gives("frames: a faster link, one bit less than the burst", C, 11, 1, CURVE(11, 1, 10, 2, 3, 20));
+    shape_gives("frames: a slower link, the burst", C, 9, 2, CURVE(9, 2, 3, 20));
+    shape_gives("frames: a slower link between two buckets", C, 5, 6, CURVE(10, 2, 5, 6, 3, 20));
+    /* C's buckets meet at 18/7, and (5,15) is above C there; (5,14) is below. */
+    shape_gives("frames: just of no use", C, 5, 15, C);
+    shape_gives("frames: just of use", C, 5, 14, CURVE(10, 2, 5, 14, 3, 20));
+    /* (10,4) and (3,18) meet at 2, and (7,10) is 24 there too. */
+    shape_gives("frames: three meet, the link's is of no use", CURVE(10, 4, 3, 18), 7, 10, CURVE(10, 4, 3, 18));
+    /* (12,2) and (5,9) meet at 1, where (9,5) is 14 too. */
+    shape_gives("frames: three meet, the curve's is of no use", CURVE(9, 5, 5, 9), 12, 2, CURVE(12, 2, 5, 9));
+    shape_gives("frames: the slowest link, the last burst", C, 3, 20, C);
+    shape_gives("frames: the slowest link, one bit less", C, 3, 19, CURVE(10, 2, 3, 19));
+    shape_gives("frames: slower than the curve in the end", C, 1, 30, CURVE(10, 2, 3, 20, 1, 30));
+    shape_gives("frames: rate and frame exchanged are another link", CURVE(3, 20), 2, 10, CURVE(2, 10));
+    shape_gives("frames: {(0,0)}", CURVE(0, 0), 5, 7, CURVE(0, 0));
+    shape_gives("frames: 2^40-1 on a slow link", C, 1, FRAME_END - 1, CURVE(10, 2, 3, 20, 1, FRAME_END - 1));
+    shape_gives("frames: 2^40-1 on the fastest link", C, RATE_END - 1, FRAME_END - 1, C);
+    shape_gives("frames: 2^40-1 where the burst is that", CURVE(9, BURST_END - 1), 8, FRAME_END - 1, CURVE(8, FRAME_END - 1));
+    /* A link that is the next of the stairs, behind 63 of them and behind 64. */
+    shape_gives("frames: 64 buckets of 63 and the link", stairs(65, 0, 1, 63), 2, stair_burst(63), stairs(65, 0, 1, 64));
+    shape_refuses("frames: 65 buckets of 64 and the link", stairs(65, 0, 1, 64), 1, stair_burst(64), 9);
+}
+
+static void shape_refusals(void)
+{
+    shape_refuses("shape by 0", C, 0, 0, 6);
+    shape_refuses("shape by 2^20", C, RATE_END, 0, 6);
+    shape_refuses("shape by the greatest number", C, MOST, 0, 6);
+    shape_refuses("shape with a frame of 2^40", C, 10, FRAME_END, 6);
+    shape_refuses("shape with a frame of the greatest number", C, 10, MOST, 6);
+    shape_refuses("shape by 0 with a frame of 2^40", C, 0, FRAME_END, 6);
+    shape_refuses("shape, LIST before the link's RANGE", NONE, 0, 0, 4);
+    shape_refuses("shape, LIST before the frame's RANGE", NONE, 10, FRAME_END, 4);
+    shape_refuses("shape, COUNT before the link's RANGE", stairs(64, 0, 1, 65), RATE_END, 0, 5);
+    shape_refuses("shape, COUNT before the frame's RANGE", stairs(64, 0, 1, 65), 10, FRAME_END, 5);
+    shape_refuses("shape, RANGE of the curve and of the link", CURVE(RATE_END, 0), 0, 0, 6);
+    shape_refuses("shape, the link's RANGE before FORM", CURVE(3, 20, 10, 2), 0, 0, 6);
+    shape_refuses("shape, the frame's RANGE before FORM", CURVE(3, 20, 10, 2), 10, FRAME_END, 6);
+    shape_refuses("shape, the frame's RANGE before LARGE", stairs(64, 1, 1, 64), 64, FRAME_END, 6);
+    shape_refuses("shape, FORM before LARGE", turned(stairs(64, 1, 1, 64)), 64, 0, 7);
 }
 
 /* Output lists of every length up to some more than the answer needs. */
@@ -274,8 +312,8 @@ static void room(void)
     gives_by_room(sum(C, CURVE(0, 0)), curve_answer(C), 0, two + 3);
     gives_by_room(sum(full_stairs(), CURVE(0, 0)), curve_answer(full_stairs()), 0, all + 3);
     test("room for shape");
-    gives_by_room(shape(CURVE(3, 20), 10), curve_answer(CURVE(10, 0, 3, 20)), 0, two + 3);
-    gives_by_room(shape(full_stairs(), 63), curve_answer(full_stairs()), 0, all + 3);
+    gives_by_room(shape(CURVE(3, 20), 10, 2), curve_answer(C), 0, two + 3);
+    gives_by_room(shape(full_stairs(), 63, 0), curve_answer(full_stairs()), 0, all + 3);
     test("room for the answer alone, which has two buckets, though five came in");
     gives_by_room(normalise(RAW(3, 20, 10, 2, 10, 2, 5, 15, 3, 25)), curve_answer(C), two, two);
 }
@@ -307,7 +345,9 @@ void curve_tests(void)
     bursting();
     lowering();
     adding();
-    shaping();
+    shaping_bit_by_bit();
+    shaping_by_frames();
+    shape_refusals();
     room();
     shared_lists();
 }

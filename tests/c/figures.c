@@ -65,8 +65,12 @@ void figures_tests(void)
     gives(backlog(CURVE(0, 5), PORT(10, 0)), figure(5));
     gives(delay(CURVE(0, 5), PORT(10, 0)), figure(1));
 
-    test("shape {(3,20)} by 10");
-    gives(shape(CURVE(3, 20), 10), curve_answer(CURVE(10, 0, 3, 20)));
+    test("shape {(3,20)} by 10, bit by bit and with frames of 2");
+    gives(shape(CURVE(3, 20), 10, 0), curve_answer(CURVE(10, 0, 3, 20)));
+    gives(shape(CURVE(3, 20), 10, 2), curve_answer(C));
+    test("shape C by links that it obeys");
+    gives(shape(C, 10, 2), curve_answer(C));
+    gives(shape(C, 12, 5), curve_answer(C));
     test("join (1, 2^20-1) with (1, 0), and with (1, 1)");
     gives(join(PORT(1, LATENCY_END - 1), PORT(1, 0)), server_answer(PORT(1, LATENCY_END - 1)));
     refuses(join(PORT(1, LATENCY_END - 1), PORT(1, 1)), DUCHRELIN_LARGE);

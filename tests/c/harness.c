@@ -210,7 +210,7 @@ static outcome ask(question q)
     case SUM:
         return of_answer(duchrelin_sum(f, q.f.count, g, q.g.count, out, q.room));
     case SHAPE:
-        return of_answer(duchrelin_shape(f, q.f.count, q.number, out, q.room));
+        return of_answer(duchrelin_shape(f, q.f.count, q.number, q.frame, out, q.room));
     case JOIN:
         return of_server(duchrelin_join(s.rate, s.latency, q.next.rate, q.next.latency));
     case BEHIND:
@@ -315,7 +315,10 @@ question value(list curve, uint64_t tick) { return (question){.call = VALUE, .f 
 question burst(list curve) { return (question){.call = BURST, .f = curve}; }
 question lower(list f, list g) { return (question){.call = LOWER, .f = f, .g = g, .room = PLENTY}; }
 question sum(list f, list g) { return (question){.call = SUM, .f = f, .g = g, .room = PLENTY}; }
-question shape(list curve, uint64_t rate) { return (question){.call = SHAPE, .f = curve, .number = rate, .room = PLENTY}; }
+question shape(list curve, uint64_t rate, uint64_t frame)
+{
+    return (question){.call = SHAPE, .f = curve, .number = rate, .frame = frame, .room = PLENTY};
+}
 question join(server s, server next) { return (question){.call = JOIN, .server = s, .next = next}; }
 question behind(list curve, server at) { return (question){.call = BEHIND, .f = curve, .server = at, .room = PLENTY}; }
 question backlog(list curve, server at) { return (question){.call = BACKLOG, .f = curve, .server = at}; }

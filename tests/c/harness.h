@@ -17,6 +17,7 @@
 #define LATENCY_END (UINT64_C(1) << 20)
 #define BURST_END (UINT64_C(1) << 40)
 #define TICK_END (UINT64_C(1) << 40)
+#define FRAME_END (UINT64_C(1) << 40)
 #define MOST UINT64_MAX
 
 /* ---- tests */
@@ -84,7 +85,8 @@ typedef struct {
     list f, g;
     file file;
     server server, next;
-    uint64_t number; /* the tick of value, the link's rate of shape */
+    uint64_t number; /* the tick of value, the link's rate of shape, */
+    uint64_t frame;  /* and its longest frame */
     size_t room;     /* numbers or bytes of the output */
     int untouched;   /* the output can neither be read nor written while the call runs */
 } question;
@@ -124,7 +126,7 @@ question value(list curve, uint64_t tick);
 question burst(list curve);
 question lower(list f, list g);
 question sum(list f, list g);
-question shape(list curve, uint64_t link_rate);
+question shape(list curve, uint64_t rate, uint64_t frame);
 question join(server first, server next);
 question behind(list curve, server at);
 question backlog(list curve, server at);

@@ -15,7 +15,7 @@ static void no_curve(const char *name, list bad, uint64_t code)
     refuses(sum(bad, C), code);
     refuses(sum(C, bad), code);
     refuses(sum(bad, bad), code);
-    refuses(shape(bad, 10), code);
+    refuses(shape(bad, 10, 2), code);
     refuses(behind(bad, PORT(6, 1)), code);
     refuses(backlog(bad, PORT(6, 1)), code);
     refuses(delay(bad, PORT(6, 1)), code);

@@ -152,7 +152,10 @@ def figures(tally):
         ("the burst of {(0,0)}", "burst", [curve([(0, 0)])], (0, 0), None),
         ("{(0,5)} and (10,0), backlog", "backlog", [curve([(0, 5)]), *Server(10, 0)], (0, 5), None),
         ("{(0,5)} and (10,0), delay", "delay", [curve([(0, 5)]), *Server(10, 0)], (0, 1), None),
-        ("shape {(3,20)} by 10", "shape", [curve([(3, 20)]), 10], (0, 2), curve([(10, 0), (3, 20)])),
+        ("shape {(3,20)} by 10", "shape", [curve([(3, 20)]), 10, 0], (0, 2), curve([(10, 0), (3, 20)])),
+        ("shape {(3,20)} by 10 with frames of 2", "shape", [curve([(3, 20)]), 10, 2], (0, 2), curve(C)),
+        ("shape C by 10 with frames of 2", "shape", [curve(C), 10, 2], (0, 2), curve(C)),
+        ("shape C by 12 with frames of 5", "shape", [curve(C), 12, 5], (0, 2), curve(C)),
         ("join (1, 2^20-1) with (1, 0)", "join", [*most, *Server(1, 0)], (0, *most), None),
         ("join (1, 2^20-1) with (1, 1)", "join", [*most, *Server(1, 1)], (LARGE, *NO_SERVER), None),
         ("64 raw buckets", "normalise", [sixty_four], (0, 1), curve([(7, 9)])),
@@ -225,7 +228,7 @@ def beside(curve, chance):
 def linked(curve, chance):
     def draw():
         chosen = curve()
-        return [drawing.as_curve(chosen, chance), drawing.link_rate(chosen, chance / 2)]
+        return [drawing.as_curve(chosen, chance), *drawing.link(chosen, chance / 2)]
 
     return draw
 
@@ -237,10 +240,11 @@ def parts_of_one_curve():
     return [curve_list(b for b in curve if b in first), curve_list(b for b in curve if b not in first)]
 
 
-def link_before_a_curve():
-    """Operands whose shape by the link's rate has 60 to 65 buckets."""
-    curve = drawing.curve_of(rng.randint(60, 68), 300, 200)
-    return [curve_list(curve[1:65]), curve[0][0]]
+def link_among_buckets():
+    """Operands whose shape has 60 to 65 buckets, one of them the link's."""
+    curve = drawing.curve_of(rng.randint(60, 68), 300, 200)[:65]
+    place = rng.randrange(len(curve) - 1)  # the last rate is 0, and no link has that
+    return [curve_list(curve[:place] + curve[place + 1:]), *curve[place]]
 
 
 def sum_of_many_pairs():
@@ -295,7 +299,7 @@ def campaigns(tally):
     run("sum, up to 4096 pairs", 24, sum_of_many_pairs, "sum")
     run("shape, small curves", 3000, linked(small, 0.35), "shape")
     run("shape, long curves", 50, linked(large, 0.2), "shape")
-    run("shape, 60 to 65 buckets", 25, link_before_a_curve, "shape")
+    run("shape, 60 to 65 buckets", 25, link_among_buckets, "shape")
     run("join", 3000, joining, "join")
     run("behind, small curves", 8000, at_port(small, 0.3), "behind")
     run("behind, long curves", 200, at_port(large, 0.15), "behind")
@@ -324,7 +328,7 @@ def every_length(tally):
         ("normalise", [raw_list(full[::-1])]),
         ("lower", [curve_list(full[0::2]), curve_list(full[1::2])]),
         ("sum", [curve_list(full[:30]), curve_list(C)]),
-        ("shape", [curve_list(full[1:]), full[0][0]]),
+        ("shape", [curve_list(full[:20] + full[21:]), *full[20]]),
         ("behind", [curve_list(full), *Server(full[40][0], 1)]),
         ("read", [profiles.curve_file(full)]),
         ("write_curve", [curve_list(full)]),

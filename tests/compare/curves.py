@@ -8,7 +8,7 @@ from fractions import Fraction
 from functools import lru_cache
 
 from rules import (
-    COUNT, CURVE_NUMBERS, FORM, LARGE, LIST, MOST_BUCKETS, RANGE, RATE_END, RAW_NUMBERS, TICK_END,
+    COUNT, CURVE_NUMBERS, FORM, FRAME_END, LARGE, LIST, MOST_BUCKETS, RANGE, RATE_END, RAW_NUMBERS, TICK_END,
     Exact, bucket_in_range, curve_buckets, curve_list, raw_buckets,
 )
 
@@ -147,6 +147,6 @@ def sum_of(f, g):
     return curve_answer(curve_refusals(f) | curve_refusals(g), pairs)
 
 
-def shape(curve, link_rate):
-    link = set() if 1 <= link_rate < RATE_END else {RANGE}
-    return curve_answer(curve_refusals(curve) | link, lambda: curve_buckets(curve) + [(link_rate, 0)])
+def shape(curve, rate, frame):
+    link = set() if 1 <= rate < RATE_END and frame < FRAME_END else {RANGE}
+    return curve_answer(curve_refusals(curve) | link, lambda: curve_buckets(curve) + [(rate, frame)])

@@ -7,7 +7,7 @@ from math import gcd
 import curves
 import profiles
 from rules import (
-    BURST_END, CURVE_NUMBERS, LATENCY_END, MOST_SERVERS, RATE_END, RAW_NUMBERS, TICK_END,
+    BURST_END, CURVE_NUMBERS, FRAME_END, LATENCY_END, MOST_SERVERS, RATE_END, RAW_NUMBERS, TICK_END,
     Server, curve_list, raw_buckets, raw_list,
 )
 
@@ -143,9 +143,21 @@ def tick(chance):
     return rng.choice([TICK_END, 2**64 - 1] if rng.random() < chance else ends)
 
 
-def link_rate(curve, chance):
-    rates = [1, 2, rng.randint(1, 20), max(1, curve[0][0]), rng.randrange(1, RATE_END), RATE_END - 1]
-    return rng.choice([0, RATE_END, 2**64 - 1] if rng.random() < chance else rates)
+def link(curve, chance):
+    """A link's rate and longest frame, which often have something to do with the curve: a rate at or between its rates; a frame at or
+    beside one of its bursts, or with which the link just touches the curve where two buckets meet, or just does not. One of the two is
+    out of range with some chance."""
+    place = rng.randrange(len(curve))
+    (before, lower), (after, higher) = curve[max(place - 1, 0)], curve[place]
+    rate = rng.choice([1, 2, rng.randint(1, 20), before, (before + after + 1) // 2, after, curve[0][0] + 1, rng.randrange(RATE_END), RATE_END - 1])
+    rate = min(RATE_END - 1, max(1, rate))
+    crossing = Fraction(higher - lower, before - after) if before > after else Fraction(0)
+    touching = int(before * crossing + lower - rate * crossing)
+    frame = rng.choice([0, 0, 1, rng.randint(0, 20), higher + rng.randint(-1, 1), touching + rng.randint(-1, 1), rng.randrange(FRAME_END), FRAME_END - 1])
+    frame = min(FRAME_END - 1, max(0, frame))
+    if rng.random() < chance:
+        return rng.choice([[rng.choice([0, RATE_END, 2**64 - 1]), frame], [rate, rng.choice([FRAME_END, 2**64 - 1])]])
+    return [rate, frame]
 
 
 def clamped(server):

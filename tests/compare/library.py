@@ -50,7 +50,7 @@ CALLS = {
     "burst": Call(LENT, FIGURE, NOTHING_OUT, curves.burst_of, {0} | CURVE_CODES),
     "lower": Call(LENT + LENT, ANSWER, LIST_OUT, curves.lower, {0, LARGE, ROOM} | CURVE_CODES),
     "sum": Call(LENT + LENT, ANSWER, LIST_OUT, curves.sum_of, {0, LARGE, ROOM} | CURVE_CODES),
-    "shape": Call(LENT + NUMBER, ANSWER, LIST_OUT, curves.shape, {0, LARGE, ROOM} | CURVE_CODES),
+    "shape": Call(LENT + NUMBER + NUMBER, ANSWER, LIST_OUT, curves.shape, {0, LARGE, ROOM} | CURVE_CODES),
     "join": Call(PORT + PORT, SERVER, NOTHING_OUT, servers.join_of, {0, RANGE, LARGE}),
     "behind": Call(LENT + PORT, ANSWER, LIST_OUT, servers.behind_of, {0, UNBOUNDED, LARGE, ROOM} | CURVE_CODES),
     "backlog": Call(LENT + PORT, FIGURE, NOTHING_OUT, servers.backlog_of, {0, UNBOUNDED} | CURVE_CODES),

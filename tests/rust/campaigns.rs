@@ -66,8 +66,9 @@ fn parallel_sum(rng: &mut Rng) -> Question {
 
 fn shape_of(rng: &mut Rng, curve: &[Bucket]) -> Question {
     let f = as_curve(rng, curve, 4);
-    let rate = if rng.one_in(8) { rng.pick(&[0, RATE_END, RATE_END + 1, u64::MAX]) } else { good_link(rng, curve) };
-    questions::shape(&f, rate)
+    let link = good_link(rng, curve);
+    let link = if rng.one_in(8) { bad_link(rng, link) } else { link };
+    questions::shape(&f, link)
 }
 
 fn short_shape(rng: &mut Rng) -> Question {
@@ -81,10 +82,12 @@ fn long_shape(rng: &mut Rng) -> Question {
 }
 
 /// The link and the rest of one curve, which has 60 to 65 buckets.
-fn link_first(rng: &mut Rng) -> Question {
+fn link_dealt_out(rng: &mut Rng) -> Question {
     let count = 60 + rng.place(6);
-    let curve = curve_of(rng, count, 200, 300);
-    questions::shape(&curve_list(&curve[1..]), curve[0].rate)
+    let mut curve = curve_of(rng, count, 200, 300);
+    let link = curve.remove(rng.place(count));
+    let rest = curve_list(&curve);
+    questions::shape(&rest, Link { rate: link.rate.max(1), frame: link.burst })
 }
 
 fn joining(rng: &mut Rng) -> Question {
@@ -160,7 +163,7 @@ const CAMPAIGNS: &[(&str, usize, Draw)] = &[
     ("sum, long curves with parallel edges", 200, parallel_sum),
     ("shape, short curves", 100_000, short_shape),
     ("shape, long curves", 3_000, long_shape),
-    ("shape, 60 to 65 buckets", 3_000, link_first),
+    ("shape, 60 to 65 buckets", 3_000, link_dealt_out),
     ("join", 200_000, joining),
     ("behind, short curves", 250_000, |rng| short_port(rng, Behind)),
     ("behind, long curves", 6_000, |rng| long_port(rng, Behind)),
@@ -319,7 +322,11 @@ pub fn figures(run: &mut Run) {
     number(run, "{(0,5)} and (10,0)", port(Backlog, &[0, 5], 10, 0), 5);
     number(run, "{(0,5)} and (10,0)", port(Delay, &[0, 5], 10, 0), 1);
 
-    curve(run, "shape {(3,20)} by 10", questions::shape(&list(&[3, 20]), 10), &[10, 0, 3, 20]);
+    let shape = |curve: &[u64], rate, frame| questions::shape(curve, Link { rate, frame });
+    curve(run, "shape {(3,20)} by 10", shape(&list(&[3, 20]), 10, 0), &[10, 0, 3, 20]);
+    curve(run, "shape {(3,20)} by 10 with frames of 2", shape(&list(&[3, 20]), 10, 2), &[10, 2, 3, 20]);
+    curve(run, "shape C by links that it obeys", shape(&c, 10, 2), &[10, 2, 3, 20]);
+    curve(run, "shape C by links that it obeys", shape(&c, 12, 5), &[10, 2, 3, 20]);
     let most = server(1, LATENCY_END - 1);
     server_is(run, "join (1, 2^20-1) with (1, 0)", questions::join(most, server(1, 0)), most);
     refused(run, "join (1, 2^20-1) with (1, 1)", questions::join(most, server(1, 1)), LARGE);

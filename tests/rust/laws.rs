@@ -28,6 +28,10 @@ const SUM_NOTHING: &str = "law: the sum with the curve 0";
 const LENT_TWICE: &str = "law: one list lent twice";
 const SHAPE_IS_LOWER: &str = "law: shape is lower with the link's bucket";
 const SHAPE_READS: &str = "law: shape reads as the smaller of curve and link";
+const SHAPE_TWICE: &str = "law: shaping twice by one link is shaping once";
+const SHAPE_BURST: &str = "law: the burst of a shaped curve is the smaller of burst and frame";
+const SHAPE_OBEYED: &str = "law: a curve with a bucket that is within the link's stays";
+const SHAPE_LONGER: &str = "law: a longer frame never makes a backlog or a delay smaller";
 const LOWER_TURNED: &str = "law: lower the other way round";
 const SUM_TURNED: &str = "law: sum the other way round";
 const LOWER_READS: &str = "law: lower reads as the smaller of the two";
@@ -61,6 +65,10 @@ pub const NAMES: &[&str] = &[
     LENT_TWICE,
     SHAPE_IS_LOWER,
     SHAPE_READS,
+    SHAPE_TWICE,
+    SHAPE_BURST,
+    SHAPE_OBEYED,
+    SHAPE_LONGER,
     LOWER_TURNED,
     SUM_TURNED,
     LOWER_READS,
@@ -137,17 +145,40 @@ fn laws_of_one(run: &mut Run, curve: &[Bucket]) {
     let told = run.answer(&of_two(Sum, &f, &curve_list(&[bucket(0, 0)])));
     run.law(SUM_NOTHING, told.is(&f), &[&f]);
 
-    let rate = good_link(&mut run.rng, curve);
-    let link = bucket(rate, 0);
-    let shape = run.answer(&questions::shape(&f, rate));
-    let lower = run.answer(&of_two(Lower, &f, &curve_list(&[link])));
-    run.law(SHAPE_IS_LOWER, shape == lower, &[&f, &[rate]]);
-    if shape.answered() {
-        law_of_answers(run, shape.list(), &[curve, &[link]].concat());
-        let tick = good_tick(&mut run.rng, curve);
-        let of_link = link.at(tick.into(), 1);
-        let good = run.reading(shape.list(), tick) == run.reading(&f, tick).map(|v| v.min(of_link));
-        run.law(SHAPE_READS, good, &[&f, &[rate, tick]]);
+}
+
+fn laws_of_shape(run: &mut Run, curve: &[Bucket]) {
+    let f = curve_list(curve);
+    let link = good_link(&mut run.rng, curve);
+    let shape = run.answer(&questions::shape(&f, link));
+    let told = [&f[..], &[link.rate, link.frame]];
+    let lower = run.answer(&of_two(Lower, &f, &curve_list(&[link.bucket()])));
+    run.law(SHAPE_IS_LOWER, shape == lower, &told);
+    if curve.iter().any(|b| b.rate <= link.rate && b.burst <= link.frame) {
+        run.law(SHAPE_OBEYED, shape.is(&f), &told);
+    }
+    if !shape.answered() {
+        return;
+    }
+    law_of_answers(run, shape.list(), &[curve, &[link.bucket()]].concat());
+    let again = run.answer(&questions::shape(shape.list(), link));
+    run.law(SHAPE_TWICE, again.is(shape.list()), &told);
+    let burst = run.reading(&f, 0).map(|burst| burst.min(link.frame.into()));
+    let good = burst.is_some() && run.reading(shape.list(), 0) == burst;
+    run.law(SHAPE_BURST, good, &told);
+    let tick = good_tick(&mut run.rng, curve);
+    let of_link = link.bucket().at(tick.into(), 1);
+    let good = run.reading(shape.list(), tick) == run.reading(&f, tick).map(|v| v.min(of_link));
+    run.law(SHAPE_READS, good, &[&f, &[link.rate, link.frame, tick]]);
+
+    let longer = Link { frame: (link.frame + run.rng.below(40)).min(FRAME_END - 1), ..link };
+    let wider = run.answer(&questions::shape(&f, longer));
+    let server = bounded_server_for(&mut run.rng, &curve_buckets(shape.list()));
+    for asked in [Backlog, Delay] {
+        let [less, more] = [&shape, &wider].map(|told| run.answer(&at_port(asked, told.list(), server)).figure());
+        if wider.answered() && more.is_some() {
+            run.law(SHAPE_LONGER, less.is_some() && less <= more, &[&f, &[link.rate, link.frame, longer.frame], &numbers(&[server])]);
+        }
     }
 }
 
@@ -404,6 +435,7 @@ pub fn laws(run: &mut Run) {
         laws_of_normalise(run, &raw);
         let curve = small_curve(&mut run.rng);
         laws_of_one(run, &curve);
+        laws_of_shape(run, &curve);
         let [f, g] = small_pair(&mut run.rng).map(|curve| as_curve(&mut run.rng, &curve, 12));
         laws_of_two(run, &f, &g);
         if case % 4 == 0 {
@@ -419,6 +451,7 @@ pub fn laws(run: &mut Run) {
         laws_of_normalise(run, &raw);
         let curve = large_curve(&mut run.rng);
         laws_of_one(run, &curve);
+        laws_of_shape(run, &curve);
         let [f, g] = large_pair(&mut run.rng).map(|curve| curve_list(&curve));
         laws_of_two(run, &f, &g);
         for _ in 0..LONG_EACH {

@@ -101,7 +101,7 @@ fn of_profile(told: library::Profile) -> (u64, Figures) {
 
 /// Calls the library, with an output of so many numbers or bytes.
 pub fn ask(question: &Question, room: usize) -> Told {
-    let Question { operation, server, next, number, .. } = question;
+    let Question { operation, server, next, tick, link, .. } = question;
     let (mut f, mut g, mut file) = (Table::with(&question.f), Table::with(&question.g), Table::with(&question.file));
     let kind = operation.out();
     let room_of = |other: Out| if kind == other { room } else { 0 };
@@ -109,11 +109,11 @@ pub fn ask(question: &Question, room: usize) -> Told {
     let mut buffer = Table::with(&words::<u8>(room_of(Out::Bytes)));
     let (code, figures) = match operation {
         Normalise => of_answer(library::normalise(f.list(), out.list_mut())),
-        Value => of_figure(library::value(f.list(), *number)),
+        Value => of_figure(library::value(f.list(), *tick)),
         Burst => of_figure(library::burst(f.list())),
         Lower => of_answer(library::lower(f.list(), g.list(), out.list_mut())),
         Sum => of_answer(library::sum(f.list(), g.list(), out.list_mut())),
-        Shape => of_answer(library::shape(f.list(), *number, out.list_mut())),
+        Shape => of_answer(library::shape(f.list(), *link, out.list_mut())),
         Join => of_server(library::join(*server, *next)),
         Behind => of_answer(library::behind(f.list(), *server, out.list_mut())),
         Backlog => of_figure(library::backlog(f.list(), *server)),

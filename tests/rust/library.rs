@@ -1,6 +1,6 @@
 //! The functions of include/duchrelin.h, each as a safe one.
 
-use super::rules::Server;
+use super::rules::{Link, Server};
 use std::mem::{align_of, offset_of, size_of};
 
 #[repr(C)]
@@ -72,7 +72,8 @@ extern "C" {
     fn duchrelin_shape(
         curve: *const u64,
         curve_numbers: usize,
-        link_rate: u64,
+        rate: u64,
+        frame: u64,
         out: *mut u64,
         out_numbers: usize,
     ) -> Answer;
@@ -119,9 +120,9 @@ pub fn sum(f: &[u64], g: &[u64], out: &mut [u64]) -> Answer {
     unsafe { duchrelin_sum(f.as_ptr(), f.len(), g.as_ptr(), g.len(), to, room) }
 }
 
-pub fn shape(curve: &[u64], link_rate: u64, out: &mut [u64]) -> Answer {
+pub fn shape(curve: &[u64], link: Link, out: &mut [u64]) -> Answer {
     let (to, room) = (out.as_mut_ptr(), out.len());
-    unsafe { duchrelin_shape(curve.as_ptr(), curve.len(), link_rate, to, room) }
+    unsafe { duchrelin_shape(curve.as_ptr(), curve.len(), link.rate, link.frame, to, room) }
 }
 
 pub fn join(server: Server, next: Server) -> ServerAnswer {

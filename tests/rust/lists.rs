@@ -298,14 +298,46 @@ pub fn good_tick(rng: &mut Rng, curve: &[Bucket]) -> u64 {
     }
 }
 
-pub fn good_link(rng: &mut Rng, curve: &[Bucket]) -> u64 {
-    let near = curve.first().map_or(1, |first| first.rate) + rng.below(3);
-    let rate = match rng.below(4) {
+/// The frame with which a link of this rate comes up to the curve where two of its buckets meet: at it or above, but with a bit less
+/// below it.
+fn touching_frame(steeper: Bucket, flatter: Bucket, rate: u64) -> u64 {
+    let fall = i128::from(steeper.rate) - i128::from(flatter.rate);
+    let rise = i128::from(flatter.burst) - i128::from(steeper.burst);
+    let frame = i128::from(steeper.burst) * fall + (i128::from(steeper.rate) - i128::from(rate)) * rise;
+    let whole = (frame + fall - 1).div_euclid(fall);
+    u64::try_from(whole.clamp(0, i128::from(FRAME_END - 1))).expect("a frame")
+}
+
+/// A link in range, which often has something to do with two neighbours of the curve, or with one bucket.
+pub fn good_link(rng: &mut Rng, curve: &[Bucket]) -> Link {
+    let place = rng.place(curve.len());
+    let [steeper, flatter] = [curve[place.saturating_sub(1)], curve[place]];
+    let rate = match rng.below(7) {
         0 => rng.within(1, 20),
-        1 => near.saturating_sub(1),
-        _ => rng.near(RATE_END),
+        1 => curve[0].rate + rng.below(3),
+        2 => steeper.rate,
+        3 => flatter.rate,
+        4 => rng.near(RATE_END),
+        _ => rng.within(flatter.rate, steeper.rate),
     };
-    rate.clamp(1, RATE_END - 1)
+    let rate = rate.clamp(1, RATE_END - 1);
+    let frame = match rng.below(7) {
+        0 => 0,
+        1 => rng.below(20),
+        2 => (flatter.burst + rng.below(3)).saturating_sub(1),
+        3 => rng.near(FRAME_END),
+        _ if steeper.rate > flatter.rate => (touching_frame(steeper, flatter, rate) + rng.below(3)).saturating_sub(1),
+        _ => steeper.burst,
+    };
+    Link { rate, frame: frame.min(FRAME_END - 1) }
+}
+
+/// A link of which a number is out of range.
+pub fn bad_link(rng: &mut Rng, good: Link) -> Link {
+    match rng.below(2) {
+        0 => Link { rate: rng.pick(&[0, RATE_END, RATE_END + 1, u64::MAX]), ..good },
+        _ => Link { frame: rng.pick(&[FRAME_END, FRAME_END + 1, 1 << 63, u64::MAX]), ..good },
+    }
 }
 
 // ---- two curves

@@ -76,13 +76,16 @@ pub struct Question {
     /// The server, and the second one of join.
     pub server: Server,
     pub next: Server,
-    /// The tick of value, the link's rate of shape.
-    pub number: u64,
+    /// The tick of value.
+    pub tick: u64,
+    /// The link of shape.
+    pub link: Link,
 }
 
 fn empty(operation: Operation) -> Question {
     let (f, g, file) = (Vec::new(), Vec::new(), Vec::new());
-    Question { operation, f, g, file, server: Server::default(), next: Server::default(), number: 0 }
+    let none = Server::default();
+    Question { operation, f, g, file, server: none, next: none, tick: 0, link: Link::default() }
 }
 
 pub fn normalise(raw: &[u64]) -> Question {
@@ -90,7 +93,7 @@ pub fn normalise(raw: &[u64]) -> Question {
 }
 
 pub fn value(curve: &[u64], tick: u64) -> Question {
-    Question { f: curve.to_vec(), number: tick, ..empty(Value) }
+    Question { f: curve.to_vec(), tick, ..empty(Value) }
 }
 
 pub fn burst(curve: &[u64]) -> Question {
@@ -102,8 +105,8 @@ pub fn of_two(operation: Operation, f: &[u64], g: &[u64]) -> Question {
     Question { f: f.to_vec(), g: g.to_vec(), ..empty(operation) }
 }
 
-pub fn shape(curve: &[u64], link_rate: u64) -> Question {
-    Question { f: curve.to_vec(), number: link_rate, ..empty(Shape) }
+pub fn shape(curve: &[u64], link: Link) -> Question {
+    Question { f: curve.to_vec(), link, ..empty(Shape) }
 }
 
 pub fn join(server: Server, next: Server) -> Question {
@@ -280,13 +283,13 @@ fn of_profile(profile: Profile) -> Exact {
 
 /// The lines of the operands, first and second as they are passed.
 fn operand_lines(question: &Question) -> [u32; 2] {
-    let Question { operation, f, g, file, server, next, number } = question;
+    let Question { operation, f, g, file, server, next, tick, link } = question;
     match operation {
         Normalise => [raw_lines(f), 0],
-        Value => [curve_lines(f), line(RANGE, *number >= TICK_END)],
+        Value => [curve_lines(f), line(RANGE, *tick >= TICK_END)],
         Burst => [curve_lines(f), 0],
         Lower | Sum => [curve_lines(f), curve_lines(g)],
-        Shape => [curve_lines(f), line(RANGE, !(1..RATE_END).contains(number))],
+        Shape => [curve_lines(f), line(RANGE, !link.in_range())],
         Join => [server_lines(*server), server_lines(*next)],
         Behind | Backlog | Delay => [curve_lines(f), server_lines(*server)],
         Residual => [server_lines(*server), curve_lines(f)],
@@ -299,16 +302,16 @@ fn operand_lines(question: &Question) -> [u32; 2] {
 
 /// The answer, the operands being what they should be.
 fn answer(question: &Question) -> Exact {
-    let Question { operation, f: list, g, file, server, next, number } = question;
+    let Question { operation, f: list, g, file, server, next, tick, link } = question;
     let (f, server) = (curve_buckets(list), *server);
     match operation {
         Normalise => of_curve(hull(&raw_buckets(list))),
-        Value if *number == 0 => of_figure(0),
-        Value => of_figure(u64::try_from(least(&f, (*number).into(), 1)).expect("64 bits")),
+        Value if *tick == 0 => of_figure(0),
+        Value => of_figure(u64::try_from(least(&f, (*tick).into(), 1)).expect("64 bits")),
         Burst => of_figure(f.iter().map(|bucket| bucket.burst).min().expect("a bucket")),
         Lower => of_curve(hull(&[f, curve_buckets(g)].concat())),
         Sum => of_curve(added(&f, &curve_buckets(g))),
-        Shape => of_curve(hull(&[f, vec![bucket(*number, 0)]].concat())),
+        Shape => of_curve(hull(&[f, vec![link.bucket()]].concat())),
         Join => of_server(servers::join(server, *next)),
         Behind | Backlog | Delay if last_rate(&f) > server.rate => nothing(line(UNBOUNDED, true)),
         Behind => of_curve(servers::behind(&f, server)),

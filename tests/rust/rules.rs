@@ -16,6 +16,7 @@ pub const RATE_END: u64 = 1 << 20;
 pub const LATENCY_END: u64 = 1 << 20;
 pub const BURST_END: u64 = 1 << 40;
 pub const TICK_END: u64 = 1 << 40;
+pub const FRAME_END: u64 = 1 << 40;
 pub const MOST_BUCKETS: usize = 64;
 pub const MOST_SERVERS: usize = 32;
 pub const MOST_TEXT: usize = 1145;
@@ -85,6 +86,23 @@ impl Server {
     /// What it has served by a tick.
     pub fn served(&self, tick: u64) -> u128 {
         u128::from(self.rate) * u128::from(tick.saturating_sub(self.latency))
+    }
+}
+
+/// A link: its rate, and the longest frame, which its far end hands over at once.
+#[derive(Clone, Copy, PartialEq, Eq, Debug, Default)]
+pub struct Link {
+    pub rate: u64,
+    pub frame: u64,
+}
+
+impl Link {
+    pub fn in_range(&self) -> bool {
+        (1..RATE_END).contains(&self.rate) && self.frame < FRAME_END
+    }
+
+    pub fn bucket(&self) -> Bucket {
+        bucket(self.rate, self.frame)
     }
 }
 

@@ -1,6 +1,6 @@
 //! A run: the tests by their names, what came up, and the library asked and compared.
 
-use super::curves::Edge;
+use super::curves::{hull, Edge};
 use super::lent::{ask, before};
 use super::questions::{exact, Exact, Held, Operation, Out, Question, Told, OPERATIONS};
 use super::random::Rng;
@@ -29,6 +29,14 @@ const BEFORE_CROSSING: &str = "most above the server's rate at the tick before a
 const AFTER_CROSSING: &str = "most above the server's rate at the tick after a crossing alone";
 const EQUAL_RATE: &str = "a last rate that is the server's";
 const NO_TIME: &str = "tick 0, and a burst";
+const BIT_BY_BIT: &str = "a link that hands on bit by bit";
+const LONGEST_FRAME: &str = "a frame of 2^40-1";
+const LONGEST_IN_ANSWER: &str = "a frame of 2^40-1 in the answer";
+const LINK_FIRST: &str = "the link's bucket first of several";
+const LINK_BETWEEN: &str = "the link's bucket between others";
+const LINK_LAST: &str = "the link's bucket last of several";
+const LINK_USELESS: &str = "the link's bucket of no use";
+const LINK_TOUCHES: &str = "of no use, and with one bit less of use between others";
 const NOTHING_CARRIED: &str = "the curve {(0,0)} at a server with a latency";
 const CURVE_READ: &str = "a curve";
 const SERVER_READ: &str = "a server";
@@ -44,7 +52,12 @@ fn required(operation: Operation) -> Vec<&'static str> {
         Normalise => lists.to_vec(),
         Value => [&operands[..], &[NO_TIME]].concat(),
         Burst => Vec::new(),
-        Lower | Shape => [&lists[..], &operands, &[ONE_TOO_MANY, LARGE_COUNT]].concat(),
+        Lower => [&lists[..], &operands, &[ONE_TOO_MANY, LARGE_COUNT]].concat(),
+        Shape => {
+            let frames = [BIT_BY_BIT, LONGEST_FRAME, LONGEST_IN_ANSWER];
+            let places = [LINK_FIRST, LINK_BETWEEN, LINK_LAST, LINK_USELESS, LINK_TOUCHES];
+            [&lists[..], &operands, &[ONE_TOO_MANY, LARGE_COUNT], &frames, &places].concat()
+        }
         Sum => [&lists[..], &operands, &[ONE_TOO_MANY, LARGE_COUNT, LARGE_RATE, LARGE_BURST, LAST_BURST]].concat(),
         Join => vec![LAST_LATENCY, FIRST_LATENCY_BEYOND],
         Behind => {
@@ -179,6 +192,9 @@ impl Run {
         if operation == Behind && !exact.buckets.is_empty() {
             self.notes_of_behind(question, &exact.buckets);
         }
+        if operation == Shape {
+            self.notes_of_shape(question, &exact.buckets);
+        }
         let needed = exact.output.len();
         if exact.more == 0 && needed > 0 {
             self.note(operation, EXACT_ROOM, room == needed);
@@ -190,10 +206,14 @@ impl Run {
     }
 
     fn notes_of_operands(&mut self, question: &Question) {
-        let Question { operation, f, server, number, .. } = question;
+        let Question { operation, f, server, tick, link, .. } = question;
         if *operation == Value {
             let burst = curve_buckets(f).iter().map(|b| b.burst).min();
-            self.note(Value, NO_TIME, *number == 0 && burst > Some(0));
+            self.note(Value, NO_TIME, *tick == 0 && burst > Some(0));
+        }
+        if *operation == Shape {
+            self.note(Shape, BIT_BY_BIT, link.frame == 0);
+            self.note(Shape, LONGEST_FRAME, link.frame == FRAME_END - 1);
         }
         if let Behind | Backlog | Delay | Residual | WriteCurve = operation {
             let curve = curve_buckets(f);
@@ -233,6 +253,24 @@ impl Run {
         self.note(operation, LARGE_BURST, !many && !steep && high);
         self.note(operation, LAST_BURST, !many && !steep && last == BURST_END - 1);
         self.note(operation, FULL, answer.len() == MOST_BUCKETS && !steep && !high);
+    }
+
+    /// Notes where the link's bucket stands in the answer.
+    fn notes_of_shape(&mut self, question: &Question, answer: &[Bucket]) {
+        let link = question.link;
+        let place = |answer: &[Bucket], link: Link| answer.iter().position(|b| *b == link.bucket());
+        let between = |place: Option<usize>, count: usize| place.is_some_and(|k| k > 0 && k + 1 < count);
+        let found = place(answer, link);
+        self.note(Shape, LINK_FIRST, found == Some(0) && answer.len() > 1);
+        self.note(Shape, LINK_BETWEEN, between(found, answer.len()));
+        self.note(Shape, LINK_LAST, found.is_some_and(|k| k > 0 && k + 1 == answer.len()));
+        self.note(Shape, LINK_USELESS, found.is_none());
+        self.note(Shape, LONGEST_IN_ANSWER, found.is_some() && link.frame == FRAME_END - 1);
+        if found.is_none() && link.frame > 0 {
+            let less = Link { frame: link.frame - 1, ..link };
+            let curve = hull(&[curve_buckets(&question.f), vec![less.bucket()]].concat());
+            self.note(Shape, LINK_TOUCHES, between(place(&curve, less), curve.len()));
+        }
     }
 
     /// Notes which way the curve behind a server came about.

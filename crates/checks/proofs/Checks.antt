@@ -12,8 +12,10 @@ use lib.Dec.{lit≤}
 use borrow.Author.Tests.{eq-eqb, ne-eqb, not-true, not-false}
 use Rattle.meaning.specs.Curve.{Bucket, buckets, width, curveOf, NormalForm}
 use Rattle.meaning.specs.Refusal.{LIST, COUNT, RANGE, FORM, number, Lines, _when_, _or_, Clear, Verdict, accepted, rejected, AllInRange, Uneven, listLines, rawLines, curveLines}
+use Rattle.meaning.specs.CurveQuestions.{linkLine}
 use Rattle.meaning.specs.Computed.{earlier}
 use Rattle.meaning.proofs.outcome.Outcomes.{number-positive, from-when, up-to-when, up-to-or, line-hit, line-miss, refused-first, refused-then}
+use Rattle.meaning.proofs.outcome.Answers.{link-clear}
 use Rattle.checks.specs.Contracts.{Tells}
 use Rattle.meaning.proofs.Lists.{buckets-use, curve-use}
 use Rattle.meaning.proofs.Order.{not-above, not-apart}
@@ -189,7 +191,7 @@ module _ (l : List ℕ) (clear : Clear (curveLines l)) where
   pub curve-few : length (curveOf l) ≤ 64
   curve-few = list-few width l (curveOf l) list-lines
 
--- ---- A tick, and a link's rate.
+-- ---- A tick, and a link's rate and longest frame.
 
 -- a tick of 2^40 or more
 pub tick-refused : {t : ℕ} → 1099511627776 ≤ t → Verdict (RANGE when (2 ^ 40 ≤ t)) 6
@@ -200,22 +202,27 @@ tick-refused h = line-hit RANGE h
 pub tick-right : {t : ℕ} → t < 1099511627776 → Verdict (RANGE when (2 ^ 40 ≤ t)) 0
 tick-right h = line-miss (λ over. omega arith)
 
-module _ {rate : ℕ} where
+module _ {rate frame : ℕ} where
   -- a link of rate 0
-  pub link-still : rate ≡ 0 → Verdict (RANGE when ((rate ≡ 0) ⊎ (2 ^ 20 ≤ rate))) 6
+  pub link-still : rate ≡ 0 → Verdict (linkLine rate frame) 6
   unfolding number
   link-still h = line-hit RANGE (inl h)
 
   -- a link of rate 2^20 or more
-  pub link-fast : 1048576 ≤ rate → Verdict (RANGE when ((rate ≡ 0) ⊎ (2 ^ 20 ≤ rate))) 6
+  pub link-fast : 1048576 ≤ rate → Verdict (linkLine rate frame) 6
   unfolding number
-  link-fast h = line-hit RANGE (inr h)
+  link-fast h = line-hit RANGE (inr (inl h))
 
-  -- a link between
-  pub link-right : (rate ≡ 0 → ⊥) → rate < 1048576 → Verdict (RANGE when ((rate ≡ 0) ⊎ (2 ^ 20 ≤ rate))) 0
-  link-right some h = line-miss (λ x. ⊎-elim some (λ over. omega arith) x)
+  -- a frame of 2^40 bits or more
+  pub frame-long : 1099511627776 ≤ frame → Verdict (linkLine rate frame) 6
+  unfolding number
+  frame-long h = line-hit RANGE (inr (inr h))
 
-pub ruleset number-lines = (tick-refused, tick-right, link-still, link-fast, link-right)
+  -- a link with both in range
+  pub link-right : (rate ≡ 0 → ⊥) → rate < 1048576 → frame < 1099511627776 → Verdict (linkLine rate frame) 0
+  link-right some slow short = accepted (link-clear (omega (arith, some)) slow short) refl
+
+pub ruleset number-lines = (tick-refused, tick-right, link-still, link-fast, frame-long, link-right)
 
 -- ---- The smaller of two codes.
 

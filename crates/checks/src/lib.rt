@@ -154,14 +154,17 @@ pub fn tick(t: u64) -> u64
     0
 }
 
-// The refusal of a link's rate, which is 1 to 2^20-1, or 0.
-pub fn link(rate: u64) -> u64
-    ensures { λ r. ⌜ Verdict (linkLine rate) r ⌝ }
+// The refusal of a link's rate, which is 1 to 2^20-1, and of its longest frame, 0 to 2^40-1; or 0.
+pub fn link(rate: u64, frame: u64) -> u64
+    ensures { λ r. ⌜ Verdict (linkLine rate frame) r ⌝ }
 {
     if rate == 0 {
         return limits::RANGE;
     }
     if limits::RATE_END <= rate {
+        return limits::RANGE;
+    }
+    if limits::FRAME_END <= frame {
         return limits::RANGE;
     }
     0

@@ -39,3 +39,6 @@ pub const LATENCY_END: u64 = 1_048_576;
 
 // Ticks are below 2^40.
 pub const TICK_END: u64 = 1_099_511_627_776;
+
+// A link's longest frame is below 2^40, as a burst is.
+pub const FRAME_END: u64 = 1_099_511_627_776;

@@ -112,16 +112,17 @@ pub extern "C" fn duchrelin_sum(f: &[u64], g: &[u64], out: &mut [u64]) -> duchre
     }
 }
 
-// A curve shaped by a link.
+// A curve shaped by a link of a rate and a longest frame.
 #[no_mangle]
 pub extern "C" fn duchrelin_shape(
     curve: &[u64],
-    link_rate: u64,
+    rate: u64,
+    frame: u64,
     out: &mut [u64],
 ) -> duchrelin_answer
-    ensures { λ r. ⌜ Outcome (shaping (now (curve .entry)) «link_rate») (now (out .entry)) (now (out .exit)) (r .code) (r .count) ⌝ }
+    ensures { λ r. ⌜ Outcome (shaping (now (curve .entry)) rate frame) (now (out .entry)) (now (out .exit)) (r .code) (r .count) ⌝ }
 {
-    let answer = curves::shape(curve, link_rate, out);
+    let answer = curves::shape(curve, rate, frame, out);
     duchrelin_answer {
         code: answer.code,
         count: answer.count,

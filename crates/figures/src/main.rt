@@ -83,9 +83,9 @@ fn show_curves_in_parts() {
     );
 
     let mut table = [9u64; 10];
-    let shaped = shape_in(&[3, 20], 10, &mut table, 3, 5);
+    let shaped = shape_in(&[3, 20], 10, 2, &mut table, 3, 5);
     show_table(
-        b"shape {(3,20)} by 10 into a part:",
+        b"shape {(3,20)} by 10 with frames of 2, into a part:",
         shaped.code,
         shaped.count,
         &table,
@@ -161,8 +161,10 @@ fn show_joined(words: &[u8], latency: u64) {
 
 fn main() {
     let mut out = [0u64; 4];
-    let shaped = shape(&[3, 20], 10, &mut out);
+    let shaped = shape(&[3, 20], 10, 0, &mut out);
     show(b"shape {(3,20)} by 10:", shaped, &out);
+    let shaped = shape(&[3, 20], 10, 2, &mut out);
+    show(b"shape {(3,20)} by 10 with frames of 2:", shaped, &out);
 
     let raw = spread();
     show_normalised(b"normalise 64 raw buckets:", &raw[..128]);

@@ -74,4 +74,5 @@ table =
         burst .1,
         burst .2,
       );
+      frames = (normal-is _ (lit≤ tt), normal-is _ (lit≤ tt), normal-is _ (lit≤ tt), normal-is _ (lit≤ tt));
     }

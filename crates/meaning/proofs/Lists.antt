@@ -125,6 +125,11 @@ pub all-in-range : (f : List Bucket) → EachInRange f → AllInRange f
 all-in-range [] each k m = elim m [ ]
 all-in-range (j ∷ f) each k m = cons-each (each .0) (all-in-range f (each .1)) k m
 
+-- and where all are, each is
+pub each-in-range : (f : List Bucket) → AllInRange f → EachInRange f
+each-in-range [] all = tt
+each-in-range (k ∷ f) all = (all k (List·Memᴰ·head refl), each-in-range f (λ j m. all j (List·Memᴰ·tail m)))
+
 -- ---- Written over the start of a list.
 
 module _ (answer before : List ℕ) where

@@ -9,4 +9,5 @@ pub mod Bytes
 pub mod EveryInput
 pub mod KnownServers
 pub mod AtOnce
+pub mod Frames
 pub mod ServerSlips

@@ -125,9 +125,10 @@ pairs (k ∷ f) g = map (added k) g ++ pairs f g
 abbrev pub Sum : List Bucket → List Bucket → List Bucket → Type 0
 Sum f g = NormalOf (pairs f g)
 
--- A link's bucket is (D, 0), D its rate.
-abbrev pub linkBucket : ℕ → Bucket
-linkBucket d = record { rate = d; burst = 0 }
+-- The bucket of a link of rate D, with frames of up to L bits, is (D, L): a frame has come when its last bit is in, so that the whole
+-- of one is handed over at once. Where L is 0 the bits come one by one.
+abbrev pub linkBucket : ℕ → ℕ → Bucket
+linkBucket d l = record { rate = d; burst = l }
 
 -- shape: the curve held down by the link's bucket.
 abbrev pub Shape : List Bucket → Bucket → List Bucket → Type 0

@@ -19,13 +19,13 @@ lowering f g = record { operands = curveLines f or curveLines g; Answer = Lower 
 unfoldable pub summing : List ℕ → List ℕ → Question
 summing f g = record { operands = curveLines f or curveLines g; Answer = Sum (curveOf f) (curveOf g) }
 
--- The link's rate is 1 to 2^20-1.
-abbrev pub linkLine : ℕ → Lines
-linkLine d = RANGE when ((d ≡ 0) ⊎ (2 ^ 20 ≤ d))
+-- A link's rate is 1 to 2^20-1, and its longest frame 0 to 2^40-1.
+abbrev pub linkLine : ℕ → ℕ → Lines
+linkLine d l = RANGE when ((d ≡ 0) ⊎ (2 ^ 20 ≤ d) ⊎ (2 ^ 40 ≤ l))
 
--- shape takes a curve and the link's rate.
-unfoldable pub shaping : List ℕ → ℕ → Question
-shaping f d = record { operands = curveLines f or linkLine d; Answer = Shape (curveOf f) (linkBucket d) }
+-- shape takes a curve, and a link's rate and longest frame.
+unfoldable pub shaping : List ℕ → ℕ → ℕ → Question
+shaping f d l = record { operands = curveLines f or linkLine d l; Answer = Shape (curveOf f) (linkBucket d l) }
 
 -- A tick is 0 to 2^40-1.
 abbrev pub tickLine : ℕ → Lines

@@ -4,7 +4,7 @@
 use mathlib.Core.Path.{_≡_}
 use mathlib.Core.List.{List, [], _∷_, _++_}
 use Prim.Native.Nat.{ℕ, _≤_, _<_}
-use Rattle.meaning.specs.Curve.{Bucket, buckets, listOf, valueAt, reads, value, Burst, NormalOf, Crossing, Sum}
+use Rattle.meaning.specs.Curve.{Bucket, buckets, listOf, valueAt, reads, value, Burst, NormalOf, Crossing, Sum, linkBucket, Shape}
 use Rattle.meaning.specs.Server.{port, join, Behind, Backlog, Delay, Residual}
 use Rattle.meaning.specs.Refusal.{PartOutcome}
 use Rattle.meaning.specs.ServerQuestions.{passing, BacklogOutcome, DelayOutcome}
@@ -78,3 +78,9 @@ pub record Table : Type 0 where
       × Burst (buckets (0 ∷ 0 ∷ [])) 0
       × Backlog (buckets (0 ∷ 5 ∷ [])) (port 10 0) 5
       × Delay (buckets (0 ∷ 5 ∷ [])) (port 10 0) 1
+  -- {(3,20)} shaped by a link of rate 10, bit by bit and in frames of up to 2 bits, which gives C; and C by two links that it obeys
+  pub frames :
+      Shape (buckets (3 ∷ 20 ∷ [])) (linkBucket 10 0) (buckets (10 ∷ 0 ∷ 3 ∷ 20 ∷ []))
+      × Shape (buckets (3 ∷ 20 ∷ [])) (linkBucket 10 2) C
+      × Shape C (linkBucket 10 2) C
+      × Shape C (linkBucket 12 5) C

@@ -2,8 +2,8 @@
 -- `settle` answers, over its raw buckets.
 -- Assumes nothing.
 use mathlib.Core.Path.{_≡_, refl, sym, _∙_, ap, subst}
-use mathlib.Core.Logic.{inr, ⊎-elim}
-use mathlib.Core.List.{List, [], _∷_, _++_, List·Memᴰ·eq-of-singleton}
+use mathlib.Core.Logic.{inl, inr, ⊎-elim}
+use mathlib.Core.List.{List, [], _∷_, _++_}
 use Prim.Native.Nat.{ℕ, _+_, _%_, _^_, _≤_, _<_}
 use native.Mathlib.Omega.{arith}
 use native.Mathlib.Nat.{lt-of-not-le, mul-le-mul}
@@ -18,7 +18,7 @@ use Rattle.meaning.proofs.curve.Curves.{pairs-from, pairs-length, same-buckets-
 use Rattle.meaning.proofs.outcome.Answers.{raw-some, list-up-to, curve-up-to}
 use Rattle.meaning.proofs.outcome.Outcomes.{up-to-when, up-to-or, clear-or, verdict-or, refuse-in-part, asked-so-in-part, whole-list}
 use Rattle.settle.specs.Contracts.{AllWide, settling}
-use Rattle.meaning.proofs.Lists.{append-each, buckets-flat, flat-length}
+use Rattle.meaning.proofs.Lists.{append-each, buckets-flat, all-in-range, flat-length}
 use Rattle.checks.proofs.Buckets.{flat-buckets}
 use Rattle.operations.specs.Contracts.{merged}
 use Rattle.operations.proofs.Merging.{merged-from, merged-to, merged-length}
@@ -97,11 +97,11 @@ module _ (at room : ℕ) (table : List ℕ) {code : ℕ} where
       refuse-in-part (summing f g) at room table (up-to-or (curve-up-to f) (curve-up-to g)) (omega (arith, some)) v
 
   pub shape-refused :
-      (f : List ℕ) (rate : ℕ) → Verdict (curveLines f or linkLine rate) code → (code ≡ 0 → ⊥)
-      → PartOutcome (shaping f rate) at room table table code 0
+      (f : List ℕ) (rate frame : ℕ) → Verdict (curveLines f or linkLine rate frame) code → (code ≡ 0 → ⊥)
+      → PartOutcome (shaping f rate frame) at room table table code 0
   unfolding shaping number
-  shape-refused f rate v some =
-      refuse-in-part (shaping f rate) at room table (up-to-or (curve-up-to f) (up-to-when RANGE (lit≤ tt))) (omega (arith, some)) v
+  shape-refused f rate frame v some =
+      refuse-in-part (shaping f rate frame) at room table (up-to-or (curve-up-to f) (up-to-when RANGE (lit≤ tt))) (omega (arith, some)) v
 
 -- ---- normalise: the raw list is settled as it is.
 
@@ -200,38 +200,36 @@ module _ (f g : List ℕ) {checked : ℕ} (v : Verdict (curveLines f or curveLin
       (omega (arith, pairs-length (curveOf f) (curveOf g), mul-le-mul (curve-some f first-clear) (curve-some g second-clear)))
       (pairs-wide (curve-ranged f first-clear) (curve-ranged g second-clear))
 
--- ---- shape: a curve and a link's rate of which neither is refused.
+-- ---- shape: a curve and a link of which neither is refused.
 
-module _ (f : List ℕ) (rate : ℕ) {checked : ℕ} (v : Verdict (curveLines f or linkLine rate) checked) (none : checked ≡ 0) where
-  shaped-clear : Clear (curveLines f or linkLine rate)
+module _ (f : List ℕ) (rate frame : ℕ) {checked : ℕ} (v : Verdict (curveLines f or linkLine rate frame) checked) (none : checked ≡ 0) where
+  shaped-clear : Clear (curveLines f or linkLine rate frame)
   shaped-clear = passed v none
 
   shaped-curve : Clear (curveLines f)
   shaped-curve = clear-first shaped-clear
 
   rate-fits : rate < 2 ^ 20
-  rate-fits = lt-of-not-le (λ over. clear-second shaped-clear RANGE (refl, inr over))
+  rate-fits = lt-of-not-le (λ over. clear-second shaped-clear RANGE (refl, inr (inl over)))
+
+  frame-fits : frame < 2 ^ 40
+  frame-fits = lt-of-not-le (λ over. clear-second shaped-clear RANGE (refl, inr (inr over)))
 
   -- the link's list is one bucket
-  pub shape-ready : (length (curveOf f) ≤ 64) × (length (curveOf (rate ∷ 0 ∷ [])) ≤ 64)
+  pub shape-ready : (length (curveOf f) ≤ 64) × (length (curveOf (rate ∷ frame ∷ [])) ≤ 64)
   unfolding curveOf buckets
   shape-ready = (curve-few f shaped-curve, lit≤ tt)
 
-  link-wide : AllWide (linkBucket rate ∷ [])
-  link-wide k m =
-      let e : k ≡ linkBucket rate = List·Memᴰ·eq-of-singleton m in
-      record {
-        rate-fits = omega (arith, ap (λ (j : Bucket). j .rate) e, rate-fits);
-        burst-fits = omega (arith, ap (λ (j : Bucket). j .burst) e);
-      }
+  link-wide : AllWide (linkBucket rate frame ∷ [])
+  link-wide = wide (all-in-range (linkBucket rate frame ∷ []) (record { rate-fits = rate-fits; burst-fits = frame-fits }, tt))
 
   pub shape-settled :
       {at room : ℕ} {before after : List ℕ} {code count : ℕ}
-      → PartOutcome (settling (flat (merged (curveOf f) (curveOf (rate ∷ 0 ∷ []))))) at room before after code count
-      → PartOutcome (shaping f rate) at room before after code count
+      → PartOutcome (settling (flat (merged (curveOf f) (curveOf (rate ∷ frame ∷ []))))) at room before after code count
+      → PartOutcome (shaping f rate frame) at room before after code count
   unfolding shaping curveOf buckets
   shape-settled =
-      merged-settled (shaping f rate) (curveOf f) (linkBucket rate ∷ []) (λ h n. n) (λ h n. n) shaped-clear
+      merged-settled (shaping f rate frame) (curveOf f) (linkBucket rate frame ∷ []) (λ h n. n) (λ h n. n) shaped-clear
       (curve-some f shaped-curve) (wide (curve-ranged f shaped-curve)) link-wide
 
 pub ruleset asking = (

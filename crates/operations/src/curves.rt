@@ -18,11 +18,11 @@ fn two_curves(f: &[u64], g: &[u64]) -> u64
     checks::earlier(checks::curve(f), checks::curve(g))
 }
 
-// The refusal of a curve and a link's rate, or 0.
-fn curve_and_link(f: &[u64], rate: u64) -> u64
-    ensures { λ r. ⌜ Verdict (curveLines (now (f .entry)) or linkLine rate) r ⌝ }
+// The refusal of a curve and of a link's rate and longest frame, or 0.
+fn curve_and_link(f: &[u64], rate: u64, frame: u64) -> u64
+    ensures { λ r. ⌜ Verdict (curveLines (now (f .entry)) or linkLine rate frame) r ⌝ }
 {
-    checks::earlier(checks::curve(f), checks::link(rate))
+    checks::earlier(checks::curve(f), checks::link(rate, frame))
 }
 
 // A raw list brought to normal form.
@@ -106,22 +106,22 @@ pub fn sum(f: &[u64], g: &[u64], out: &mut [u64]) -> Answer
     sum_in(f, g, out, 0, room)
 }
 
-// The curve held down by a link's bucket.
-pub fn shape_in(f: &[u64], rate: u64, table: &mut [u64], at: usize, room: usize) -> Answer
-    ensures { λ r. ⌜ PartOutcome (shaping (now (f .entry)) rate) at room (now (table .entry)) (now (table .exit)) (r .code) (r .count) ⌝ }
+// The curve held down by a link's bucket: its rate, and its longest frame at once.
+pub fn shape_in(f: &[u64], rate: u64, frame: u64, table: &mut [u64], at: usize, room: usize) -> Answer
+    ensures { λ r. ⌜ PartOutcome (shaping (now (f .entry)) rate frame) at room (now (table .entry)) (now (table .exit)) (r .code) (r .count) ⌝ }
 {
-    let code = curve_and_link(f, rate);
+    let code = curve_and_link(f, rate, frame);
     if code != 0 {
         return Answer { code, count: 0 };
     }
-    let link = [rate, 0];
+    let link = [rate, frame];
     together(f, &link, table, at, room)
 }
 
 // The same into a whole list.
-pub fn shape(f: &[u64], rate: u64, out: &mut [u64]) -> Answer
-    ensures { λ r. ⌜ Outcome (shaping (now (f .entry)) rate) (now (out .entry)) (now (out .exit)) (r .code) (r .count) ⌝ }
+pub fn shape(f: &[u64], rate: u64, frame: u64, out: &mut [u64]) -> Answer
+    ensures { λ r. ⌜ Outcome (shaping (now (f .entry)) rate frame) (now (out .entry)) (now (out .exit)) (r .code) (r .count) ⌝ }
 {
     let room = out.len();
-    shape_in(f, rate, out, 0, room)
+    shape_in(f, rate, frame, out, 0, room)
 }

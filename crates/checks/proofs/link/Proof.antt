@@ -1,4 +1,4 @@
--- `link` gives the refusal of a link's rate, by its one line.
+-- `link` gives the refusal of a link's rate and longest frame, by its one line.
 -- Assumes nothing.
 use borrow.Author.Needs.{needs}
 use Rattle.checks.proofs.Checks.{number-lines}
@@ -9,6 +9,7 @@ pub link-spec : {M : Type 1} → statement M
 link-spec =
     tie.close
     (tie.spec
+    (λ c. search (number-lines, needs))
     (λ c. search (number-lines, needs))
     (λ c. search (number-lines, needs))
     (λ c. search (number-lines, needs)))

@@ -7,7 +7,7 @@ use mathlib.Core.Path.{_≡_, refl, sym, _∙_, ap, subst}
 use mathlib.Core.Logic.{_⊎_, inl, inr, _≢_, _↔_}
 use mathlib.Core.Bool.{true}
 use mathlib.Core.List.{List, [], _∷_, _++_, append-assoc, append-nil}
-use Prim.Native.Nat.{ℕ, _+_, _*_, _%_, _≤_, _<_, min}
+use Prim.Native.Nat.{ℕ, _+_, _*_, _%_, _^_, _≤_, _<_, min}
 use native.Mathlib.Nat.{le-of-lt}
 use native.Mathlib.Omega.{arith}
 use lib.Dec.{lit≤}
@@ -15,7 +15,7 @@ use lib.ListN.{length, take, drop, length-append, length-take, length-drop, drop
 use lib.Seq.{take-all, take-at, drop-at, take-take, length-take-le}
 use Rattle.meaning.specs.Curve.{Bucket, buckets, width, curveOf, listOf, bucketAt, valueAt, value, Burst, NormalForm, NormalOf, pairs, linkBucket}
 use Rattle.meaning.specs.Refusal.{Refusal, LIST, COUNT, RANGE, FORM, LARGE, ROOM, number, Lines, _or_, Wins, Clear, Verdict, accepted, rejected, AllInRange, listLines, rawLines, curveLines, TooLarge, over, Answered, Question, allLines, Outcome, part, PartOutcome, FigureOutcome}
-use Rattle.meaning.specs.CurveQuestions.{normalising, lowering, summing, shaping, ValueOutcome, BurstOutcome}
+use Rattle.meaning.specs.CurveQuestions.{normalising, lowering, summing, linkLine, shaping, ValueOutcome, BurstOutcome}
 use Rattle.meaning.specs.Computed.{isNormal}
 use Rattle.meaning.proofs.Order.{le-or-lt, not-above, not-apart}
 use Rattle.meaning.proofs.curve.Reads.{one-burst}
@@ -67,9 +67,9 @@ unfolding summing
 summing-asks f g = record { answer-is = λ h right. right }
 
 -- and shape is
-pub shaping-asks : (f : List ℕ) (d : ℕ) → AsksNormal (shaping f d) (curveOf f ++ linkBucket d ∷ [])
+pub shaping-asks : (f : List ℕ) (d l : ℕ) → AsksNormal (shaping f d l) (curveOf f ++ linkBucket d l ∷ [])
 unfolding shaping
-shaping-asks f d = record { answer-is = λ h right. right }
+shaping-asks f d l = record { answer-is = λ h right. right }
 
 -- normalise has one outcome,
 pub one-normalise : (raw : List ℕ) → OneOutcome (normalising raw)
@@ -84,8 +84,8 @@ pub one-sum : (f g : List ℕ) → OneOutcome (summing f g)
 one-sum f g = one-curve (summing f g) (single-normal (summing-asks f g))
 
 -- shape one,
-pub one-shape : (f : List ℕ) (d : ℕ) → OneOutcome (shaping f d)
-one-shape f d = one-curve (shaping f d) (single-normal (shaping-asks f d))
+pub one-shape : (f : List ℕ) (d l : ℕ) → OneOutcome (shaping f d l)
+one-shape f d l = one-curve (shaping f d l) (single-normal (shaping-asks f d l))
 
 -- value has one figure,
 pub one-value :
@@ -366,15 +366,15 @@ module _ {before after : List ℕ} {count : ℕ} where
       let forms = both-form f g (answered-list o .operands-clear) in
       answers (summing-asks f g) (λ p q. value-pairs (curveOf f) (curveOf g) p q (forms .0 .some) (forms .1 .some)) o
 
-  -- shape: the minimum of the curve's value and D·p/q, which times q is D·p
+  -- shape: the minimum of the curve's value and D·p/q + L, which times q is D·p + L·q
   pub shape-answers :
-      (f : List ℕ) (d : ℕ) → Outcome (shaping f d) before after 0 count
-      → AnswersWith (λ p q. min (valueAt (curveOf f) p q) (d * p)) (readBack after count) count
+      (f : List ℕ) (d l : ℕ) → Outcome (shaping f d l) before after 0 count
+      → AnswersWith (λ p q. min (valueAt (curveOf f) p q) (d * p + l * q)) (readBack after count) count
   unfolding shaping valueAt bucketAt
-  shape-answers f d o =
+  shape-answers f d l o =
       let form = clear-form f (λ r h. answered-list o .operands-clear r (inl h)) in
-      answers (shaping-asks f d)
-      (λ p q. value-both (curveOf f) (linkBucket d ∷ []) p q (form .some) (omega arith) ∙ omega arith) o
+      answers (shaping-asks f d l)
+      (λ p q. value-both (curveOf f) (linkBucket d l ∷ []) p q (form .some) (omega arith)) o
 
 -- a figure that is answered is the figure, and no line holds
 pub figure-answered :
@@ -419,6 +419,12 @@ sound-clear f form ranged few r (inl (inl (inl (e, inr uneven)))) = omega (arith
 sound-clear f form ranged few r (inl (inl (inr h))) = omega (arith, h .1, ap length (curve-list f))
 sound-clear f form ranged few r (inl (inr h)) = h .1 (rw curve-list ranged)
 sound-clear f form ranged few r (inr h) = h .1 (rw curve-list form)
+
+-- a link's rate and frame in their ranges are not refused
+pub link-clear : {d l : ℕ} → 1 ≤ d → d < 2 ^ 20 → l < 2 ^ 40 → Clear (linkLine d l)
+link-clear some slow short r (e, inl still) = omega arith
+link-clear some slow short r (e, inr (inl fast)) = omega arith
+link-clear some slow short r (e, inr (inr long)) = omega arith
 
 -- The only outcomes of a question: where the list has room, code 0, this count, and these numbers written from its start; where
 -- it has not, ROOM.

@@ -269,13 +269,14 @@ module _ (f g before : List ℕ) where
       ))
 
 -- and shape has;
-pub shape-has-outcome : (f : List ℕ) (d : ℕ) (before : List ℕ) → HasOutcome (shaping f d) before
+pub shape-has-outcome : (f : List ℕ) (d l : ℕ) (before : List ℕ) → HasOutcome (shaping f d l) before
 unfolding shaping number
-shape-has-outcome f d before =
+shape-has-outcome f d l before =
     normal-outcome before
-    (decide-or (curve-decided f) (decide-line RANGE (decide-either (ℕ-discrete d 0) (decLe (2 ^ 20) d))))
+    (decide-or (curve-decided f)
+    (decide-line RANGE (decide-either (ℕ-discrete d 0) (decide-either (decLe (2 ^ 20) d) (decLe (2 ^ 40) l)))))
     (up-to-or (curve-up-to f) (up-to-when RANGE (lit≤ tt)))
-    (λ clear. omega (arith, length-append (curveOf f) (linkBucket d ∷ [])))
+    (λ clear. omega (arith, length-append (curveOf f) (linkBucket d l ∷ [])))
 
 -- value has one,
 pub value-has-outcome : (f : List ℕ) (t : ℕ) → HasFigure (ValueOutcome f t)

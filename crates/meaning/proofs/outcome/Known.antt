@@ -1,7 +1,6 @@
--- The figures P1 to P4 and that of shape, as outcomes: each is the only outcome of its question.
+-- The figures P1 to P4, as outcomes: each is the only outcome of its question.
 -- Assumes nothing.
 use mathlib.Core.Path.{refl}
-use mathlib.Core.Logic.{inl, inr}
 use mathlib.Core.List.{List, [], _∷_}
 use Prim.Native.Nat.{ℕ, _≤_}
 use native.Mathlib.Omega.{arith}
@@ -9,13 +8,13 @@ use lib.Dec.{lit≤}
 use lib.ListN.{length}
 use Rattle.meaning.specs.Curve.{Bucket, buckets, flat, curveOf, listOf, pairs}
 use Rattle.meaning.specs.Refusal.{Clear, curveLines}
-use Rattle.meaning.specs.CurveQuestions.{normalising, summing, linkLine, shaping}
+use Rattle.meaning.specs.CurveQuestions.{normalising, summing}
 use Rattle.meaning.specs.Computed.{isNormal, normal}
 use Rattle.meaning.specs.Figures.{C}
 use Rattle.meaning.proofs.Lists.{EachInRange}
 use Rattle.meaning.proofs.curve.Normal.{normal-is}
 use Rattle.meaning.proofs.outcome.Outcomes.{clear-or}
-use Rattle.meaning.proofs.outcome.Answers.{raw-some, normalising-asks, summing-asks, shaping-asks, Taken, list-clear, curve-clear, OnlyAnswer, only-answer}
+use Rattle.meaning.proofs.outcome.Answers.{raw-some, normalising-asks, summing-asks, Taken, list-clear, curve-clear, OnlyAnswer, only-answer}
 
 -- normalise answers a list that is taken
 only-normalise :
@@ -52,12 +51,9 @@ pub p3-outcome : OnlyAnswer (normalising p3-raw) (listOf (buckets (10 ∷ 0 ∷ 
 unfolding normal buckets
 p3-outcome = only-normalise p3-raw (omega arith) (omega arith)
 
--- The curves of P4 and of the figure of shape.
+-- The second curve of P4.
 abbrev second : List Bucket
 second = buckets (4 ∷ 0 ∷ 2 ∷ 2 ∷ [])
-
-abbrev slow : List Bucket
-slow = buckets (3 ∷ 20 ∷ [])
 
 c-clear : Clear (curveLines (listOf C))
 unfolding curveOf listOf flat buckets isNormal
@@ -67,22 +63,8 @@ second-clear : Clear (curveLines (listOf second))
 unfolding curveOf listOf flat buckets isNormal
 second-clear = curve-clear (listOf second) (omega arith) refl
 
-slow-clear : Clear (curveLines (listOf slow))
-unfolding curveOf listOf flat buckets isNormal
-slow-clear = curve-clear (listOf slow) (omega arith) refl
-
 -- the only outcome of P4: C plus {(4,0),(2,2)}
 pub p4-outcome : OnlyAnswer (summing (listOf C) (listOf second)) (listOf (buckets (14 ∷ 2 ∷ 12 ∷ 4 ∷ 5 ∷ 22 ∷ []))) 3
 unfolding summing normal buckets flat curveOf listOf pairs isNormal
 p4-outcome =
     only-answer (summing-asks (listOf C) (listOf second)) (clear-or c-clear second-clear) (normal-is _ (lit≤ tt)) (omega arith)
-
--- the only outcome of shaping {(3,20)} by 10
-pub shape-outcome : OnlyAnswer (shaping (listOf slow) 10) (listOf (buckets (10 ∷ 0 ∷ 3 ∷ 20 ∷ []))) 2
-unfolding shaping normal buckets flat curveOf listOf isNormal
-shape-outcome =
-    only-answer (shaping-asks (listOf slow) 10) (clear-or slow-clear link) (normal-is _ (lit≤ tt)) (omega arith)
-  where
-    link : Clear (linkLine 10)
-    link r (e, inl none) = omega arith
-    link r (e, inr big) = omega arith

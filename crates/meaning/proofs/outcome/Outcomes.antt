@@ -278,25 +278,24 @@ module _ {X Y : List Bucket → Type 0} (to : (f : List Bucket) → X f → Y f)
   same-answers r (inl h) = inl (h .0, (h .1 .0, to (h .1 .0) (h .1 .1), h .1 .2))
   same-answers r (inr h) = inr (h .0, (h .1 .0, to (h .1 .0) (h .1 .1), h .1 .2))
 
--- Two questions with the same answers, neither of them refused by an operand, have the same outcome.
+-- Two questions whose operands break the same lines, with the same answers, have the same outcome.
 module _
     (ask other : Question)
-    (clear : Clear (ask .operands))
-    (clear′ : Clear (other .operands))
+    (breaks : (r : Refusal) → ask .operands r → other .operands r)
+    (breaks-back : (r : Refusal) → other .operands r → ask .operands r)
     (to : (f : List Bucket) → ask .Answer f → other .Answer f)
     (back : (f : List Bucket) → other .Answer f → ask .Answer f)
   where
     lines-to : {room : ℕ} (r : Refusal) → allLines ask room r → allLines other room r
-    lines-to r (inl h) = absurd (clear r h)
+    lines-to r (inl h) = inl (breaks r h)
     lines-to r (inr h) = inr (same-answers to r h)
 
     lines-back : {room : ℕ} (r : Refusal) → allLines other room r → allLines ask room r
-    lines-back r (inl h) = absurd (clear′ r h)
+    lines-back r (inl h) = inl (breaks-back r h)
     lines-back r (inr h) = inr (same-answers back r h)
 
-    -- what comes of the one comes of the other,
-    pub asked-so : {before after : List ℕ} {code count : ℕ} → Outcome ask before after code count → Outcome other before after code count
-    asked-so (Outcome.refused v) =
+    pub asked-as : {before after : List ℕ} {code count : ℕ} → Outcome ask before after code count → Outcome other before after code count
+    asked-as (Outcome.refused v) =
         Outcome.refused
         (record {
           why = v .why;
@@ -309,7 +308,7 @@ module _
           figure-is = v .figure-is;
           kept = v .kept;
         })
-    asked-so (Outcome.answered v) =
+    asked-as (Outcome.answered v) =
         Outcome.answered
         (record {
           curve = v .curve;
@@ -320,11 +319,17 @@ module _
           written = v .written;
         })
 
-    -- over a part of a table too
-    pub asked-so-in-part :
-        {at room : ℕ} {before after : List ℕ} {code count : ℕ}
-        → PartOutcome ask at room before after code count → PartOutcome other at room before after code count
-    asked-so-in-part v = record { inside = asked-so (v .inside); outside = v .outside }
+-- So have two of which neither is refused by an operand, over a part of a table too.
+pub asked-so-in-part :
+    (ask other : Question) → Clear (ask .operands) → Clear (other .operands)
+    → ((f : List Bucket) → ask .Answer f → other .Answer f) → ((f : List Bucket) → other .Answer f → ask .Answer f)
+    → {at room : ℕ} {before after : List ℕ} {code count : ℕ}
+    → PartOutcome ask at room before after code count → PartOutcome other at room before after code count
+asked-so-in-part ask other clear clear′ to back v =
+    record {
+      inside = asked-as ask other (λ r h. absurd (clear r h)) (λ r h. absurd (clear′ r h)) to back (v .inside);
+      outside = v .outside;
+    }
 
 -- A table is what stands before a part, the part, and what stands after it.
 pub three-parts : (at room : ℕ) (table : List ℕ) → table ≡ take at table ++ part at room table ++ drop room (drop at table)

@@ -15,7 +15,7 @@ use Rattle.meaning.specs.Figures.{C}
 use Rattle.meaning.specs.Refusal.{Refusal, LIST, COUNT, RANGE, FORM, LARGE, ROOM, number, Lines, _or_, Wins, Clear, Verdict, Uneven, listLines, curveLines, TooLarge, answerLines, over, Question, allLines, Outcome, part, PartOutcome, FigureOutcome}
 use Rattle.meaning.specs.CurveQuestions.{normalising, lowering, summing}
 use Rattle.meaning.proofs.Order.{le-or-lt}
-use Rattle.meaning.proofs.outcome.Outcomes.{Single, From, from-when, from-or, three-parts}
+use Rattle.meaning.proofs.outcome.Outcomes.{Single, From, UpTo, from-when, from-or, three-parts}
 use Rattle.meaning.proofs.Lists.{list-rate, falling-at, over-start, drop-behind, empty-same, list-length}
 use Rattle.meaning.proofs.outcome.Answers.{AsksNormal, code-zero, code-wins, wins-code, outcome-code, curve-up-to, AnsweredList, answered-list, answered-length, outcome-length, only-answered}
 use Rattle.meaning.proofs.outcome.Known.{p1-raw, p1-outcome, p2-raw, p2-outcome, p3-raw, p3-outcome}
@@ -178,15 +178,15 @@ module _ {before after : List ℕ} {code count : ℕ} where
       let w = code-wins (outcome-code o) (omega arith) in
       omega (arith, w .1 .smallest LARGE (inr (inl (refl, (f, right, large)))), w .2)
 
--- the refusal of the second operand counts where nothing smaller holds of the first
-second-counts :
-    (f g : List ℕ) (Answer : List Bucket → Type 0) {room code : ℕ} {r : Refusal} → Wins (curveLines g) r
-    → From (number r) (curveLines f) → Verdict (curveLines f or curveLines g or answerLines Answer room) code → code ≡ number r
-second-counts f g Answer {r = r} w first v =
+-- the refusal of the second operand, whatever its lines are, counts where nothing smaller holds of the first
+pub second-counts :
+    (f : List ℕ) (lines : Lines) (Answer : List Bucket → Type 0) {room code : ℕ} {r : Refusal} → UpTo 8 lines → Wins lines r
+    → From (number r) (curveLines f) → Verdict (curveLines f or lines or answerLines Answer room) code → code ≡ number r
+second-counts f lines Answer {r = r} up w first v =
     wins-code
     (record {
       holds = inl (inr (w .holds));
-      smallest = from-or (from-or first (w .smallest)) (answer-from Answer (omega (arith, curve-up-to g r (w .holds))));
+      smallest = from-or (from-or first (w .smallest)) (answer-from Answer (omega (arith, up r (w .holds))));
     })
     v
 
@@ -196,14 +196,14 @@ module _ {before after : List ℕ} {code count : ℕ} (f g : List ℕ) where
       {r : Refusal} → Wins (curveLines g) r → From (number r) (curveLines f) → Outcome (lowering f g) before after code count
       → code ≡ number r
   unfolding lowering
-  lower-second-counts w first o = second-counts f g _ w first (outcome-code o)
+  lower-second-counts w first o = second-counts f (curveLines g) _ (curve-up-to g) w first (outcome-code o)
 
   -- of a sum too,
   pub sum-second-counts :
       {r : Refusal} → Wins (curveLines g) r → From (number r) (curveLines f) → Outcome (summing f g) before after code count
       → code ≡ number r
   unfolding summing
-  sum-second-counts w first o = second-counts f g _ w first (outcome-code o)
+  sum-second-counts w first o = second-counts f (curveLines g) _ (curve-up-to g) w first (outcome-code o)
 
   -- so a second operand that is empty or odd is LIST, whatever the first is (out of form, say).
   pub lower-second-list : Uneven width g → Outcome (lowering f g) before after code count → code ≡ 4

@@ -12,6 +12,6 @@ shape-in-spec =
     (λ c κs. search needs)
     (λ c. search (asking, needs))
     (λ c. search needs)
-    (λ c κs. shape-ready _ _ (c .before .before .before .curve-and-link .ensures) (c .before .before .if1 .left))
+    (λ c κs. shape-ready _ _ _ (c .before .before .before .curve-and-link .ensures) (c .before .before .if1 .left))
     (λ c. search needs)
     (λ c. search (asking, needs)))
