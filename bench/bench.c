@@ -61,7 +61,7 @@ static void sum(const struct library *l, const struct input *i, struct outcome *
 
 static void shape(const struct library *l, const struct input *i, struct outcome *o)
 {
-    keep_answer(o, l->shape(i->f, i->f_numbers, i->link_rate, i->frame, o->list, CURVE_NUMBERS));
+    keep_answer(o, l->shape(i->f, i->f_numbers, i->rate, i->frame, o->list, CURVE_NUMBERS));
 }
 
 static void join(const struct library *l, const struct input *i, struct outcome *o)
@@ -145,9 +145,9 @@ static const struct timing_case cases[] = {
     { "sum", "steps that differ", sum, make_summands, 8, 16, true },
     { "sum", "steps that differ", sum, make_summands, 64, 2, true },
     { "sum", "steps of one size", sum, make_stairs, 64, 16, true },
-    { "shape", "", shape, make_one_curve, 1, 16, true },
-    { "shape", "", shape, make_one_curve, 8, 16, true },
-    { "shape", "", shape, make_one_curve, 64, 16, true },
+    { "shape", "", shape, make_curve_and_link, 1, 16, true },
+    { "shape", "", shape, make_curve_and_link, 8, 16, true },
+    { "shape", "", shape, make_curve_and_link, 64, 16, true },
     { "join", "", join, make_servers, 0, 16, false },
     { "behind", "", behind, make_curve_and_server, 1, 16, true },
     { "behind", "", behind, make_curve_and_server, 8, 16, true },

@@ -74,11 +74,20 @@ void make_one_curve(struct input *input, size_t buckets, uint64_t seed)
 {
     input->f_numbers = draw_curve(input->f, buckets, 0, &seed);
     input->tick = draw(&seed, (1 + buckets) * MOST_PAUSE / 2);
-    input->link_rate = draw_rate_within(input, &seed);
-    size_t first = 0; /* of the buckets that are no steeper than the link */
-    while (input->f[first] > input->link_rate)
-        first += 2;
-    input->frame = draw(&seed, input->f[first + 1]);
+}
+
+/* A link that some buckets are steeper than, and a frame below the first burst of the others. Drawn until the answer is not LARGE. */
+void make_curve_and_link(struct input *input, size_t buckets, uint64_t seed)
+{
+    uint64_t shaped[DUCHRELIN_CURVE_NUMBERS];
+    make_one_curve(input, buckets, seed);
+    do {
+        input->rate = draw_rate_within(input, &seed);
+        size_t first = 0;
+        while (input->f[first] > input->rate)
+            first += 2;
+        input->frame = draw(&seed, input->f[first + 1]);
+    } while (plain_shape(input->f, input->f_numbers, input->rate, input->frame, shaped, DUCHRELIN_CURVE_NUMBERS).code != 0);
 }
 
 static void swap(uint64_t *a, uint64_t *b)

@@ -8,7 +8,7 @@
 struct input {
     uint64_t f[DUCHRELIN_CURVE_NUMBERS], g[DUCHRELIN_CURVE_NUMBERS];
     size_t f_numbers, g_numbers;
-    uint64_t tick, link_rate, frame, rate, latency, next_rate, next_latency;
+    uint64_t tick, frame, rate, latency, next_rate, next_latency;
     uint8_t bytes[DUCHRELIN_INPUT_BYTES];
     size_t byte_count;
 };
@@ -16,7 +16,8 @@ struct input {
 /* How an input of so many buckets is made from a seed. */
 typedef void maker(struct input *input, size_t buckets, uint64_t seed);
 
-maker make_one_curve;         /* a curve, a tick among its crossings, and a link that cuts it, or just does not */
+maker make_one_curve;         /* a curve, and a tick among its crossings */
+maker make_curve_and_link;    /* a link that cuts the curve, or just does not */
 maker make_shuffled;          /* the same, its buckets in any order */
 maker make_mostly_useless;    /* raw buckets of which few are useful */
 maker make_two_curves;        /* two curves that cross, the lower of which has at most 64 buckets */

@@ -46,7 +46,8 @@ static void curves(void)
     show_figure("burst", duchrelin_burst(flow, 4));
     show_curve("lower", duchrelin_lower(steep, 2, flat, 2, out, CURVE));
     show_curve("sum", duchrelin_sum(flow, 4, other, 4, out, CURVE));
-    show_curve("shape", duchrelin_shape(flat, 2, 10, out, CURVE));
+    show_curve("shape, frames of 2", duchrelin_shape(flat, 2, 10, 2, out, CURVE));
+    show_curve("shape, frames of 0", duchrelin_shape(flat, 2, 10, 0, out, CURVE));
 }
 
 static void servers(void)

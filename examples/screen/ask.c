@@ -40,6 +40,18 @@ uint64_t ask_served(struct server s, uint64_t tick, uint64_t *to)
     return ask_value(&line, tick > s.latency ? tick - s.latency : 0, to);
 }
 
+/* The code, and in `to` how many buckets the answer has there. */
+static uint64_t answer(duchrelin_answer a, struct curve *to)
+{
+    to->count = a.count;
+    return a.code;
+}
+
+uint64_t ask_shape(const struct curve *c, struct link l, struct curve *to)
+{
+    return answer(duchrelin_shape(LIST_OF(c), l.rate, l.frame, to->numbers, DUCHRELIN_CURVE_NUMBERS), to);
+}
+
 uint64_t ask_join(struct server s, struct server next, struct server *to)
 {
     duchrelin_server joined = duchrelin_join(PORT(s), PORT(next));
@@ -49,9 +61,7 @@ uint64_t ask_join(struct server s, struct server next, struct server *to)
 
 uint64_t ask_behind(const struct curve *c, struct server s, struct curve *to)
 {
-    duchrelin_answer answer = duchrelin_behind(LIST_OF(c), PORT(s), to->numbers, DUCHRELIN_CURVE_NUMBERS);
-    to->count = answer.count;
-    return answer.code;
+    return answer(duchrelin_behind(LIST_OF(c), PORT(s), to->numbers, DUCHRELIN_CURVE_NUMBERS), to);
 }
 
 uint64_t ask_backlog(const struct curve *c, struct server s, uint64_t *to)

@@ -19,6 +19,11 @@ struct server {
     uint64_t rate, latency;
 };
 
+/* A link on the way to a port: its rate, and its longest frame in bits, 0 where it hands on bit by bit. */
+struct link {
+    uint64_t rate, frame;
+};
+
 /* What a file holds: by its kind, the one or the other. */
 struct profile {
     uint64_t kind;
@@ -45,6 +50,9 @@ uint64_t ask_come(const struct curve *c, uint64_t tick, uint64_t *to);
 
 /* The bits that a port has served by a tick. */
 uint64_t ask_served(struct server s, uint64_t tick, uint64_t *to);
+
+/* The curve as it comes over a link. */
+uint64_t ask_shape(const struct curve *c, struct link l, struct curve *to);
 
 /* The two ports as one; the curve behind a port; the most bits that wait there; the delay there. */
 uint64_t ask_join(struct server s, struct server next, struct server *to);

@@ -100,6 +100,8 @@ static int run(const struct options *o, const struct store *s)
 {
     struct route *r = need_memory(malloc(sizeof *r));
     int status = route_load(r, s, o->names, o->count);
+    r->over_link = o->over_link;
+    r->link = o->link;
     if (status == ANSWERED) {
         status = route_run(r);
         if (status == REFUSED)

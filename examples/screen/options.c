@@ -49,6 +49,10 @@ void say_help(void)
            "      --hop N           picture: hop N alone, in place of the whole route\n"
            "      --svg FILE        picture: as SVG into FILE ('-': standard output), in\n"
            "                        place of text\n"
+           "      --link RATE       route, picture: the traffic comes over a link of RATE bits\n"
+           "                        a tick, whose longest frame --frame says\n"
+           "      --frame BITS      the link's longest frame, which its far end hands over\n"
+           "                        whole; 0 for a link that hands on bit by bit\n"
            "  -h, --help            this text\n"
            "      --version         the version\n"
            "      --                what follows is no option\n"
@@ -70,6 +74,15 @@ static size_t hop_number(const char *text)
     return number <= DUCHRELIN_MOST_SERVERS ? number : 0;
 }
 
+/* A whole number in decimal digits. Whether it is in its range is for the library to say. */
+static int whole_number(const char *text, uint64_t *to)
+{
+    size_t digits = strspn(text, "0123456789");
+    int good = digits > 0 && digits < 20 && text[digits] == '\0';
+    *to = good ? strtoull(text, NULL, 10) : 0;
+    return good;
+}
+
 /* Whether a word is this option. Its value is what follows '=' or the next word, which is then taken; NULL where there is none. */
 static int is_option(const char *option, const char **value, int argc, char **argv, int *at)
 {
@@ -83,8 +96,13 @@ static int is_option(const char *option, const char **value, int argc, char **ar
     return 1;
 }
 
+/* What the options that are read so far say of a link. */
+struct given {
+    int rate, frame;
+};
+
 /* One option, and its value where it has one. */
-static int read_option(struct options *o, int argc, char **argv, int *at)
+static int read_option(struct options *o, struct given *link, int argc, char **argv, int *at)
 {
     char *word = visible_copy(argv[*at]);
     const char *value = "";
@@ -100,6 +118,12 @@ static int read_option(struct options *o, int argc, char **argv, int *at)
     else if (is_option("--hop", &value, argc, argv, at)) {
         o->hop = value == NULL ? 0 : hop_number(value);
         wrong = o->hop == 0 ? "takes the number of a hop, from 1 on" : NULL;
+    } else if (is_option("--link", &value, argc, argv, at)) {
+        link->rate = value != NULL && whole_number(value, &o->link.rate);
+        wrong = link->rate ? NULL : "takes a whole number, the bits that the link carries in a tick";
+    } else if (is_option("--frame", &value, argc, argv, at)) {
+        link->frame = value != NULL && whole_number(value, &o->link.frame);
+        wrong = link->frame ? NULL : "takes a whole number, the bits of the link's longest frame";
     } else
         wrong = "is no option";
     if (value == NULL)
@@ -141,17 +165,36 @@ static int check_picture(const struct options *o)
     return ANSWERED;
 }
 
+/* A link without its frame would give figures that are too small, so the screen asks for it. */
+static int check_link(struct options *o, struct given link)
+{
+    const char *wrong = NULL;
+    o->over_link = link.rate && link.frame;
+    if (!link.rate && !link.frame)
+        return ANSWERED;
+    if (o->command != ROUTE && o->command != PICTURE)
+        wrong = "--link and --frame are for 'route' and 'picture' alone";
+    else if (!link.frame)
+        wrong = "which is the longest frame of the link? Add --frame BITS, or --frame 0 if the link hands on bit by bit";
+    else if (!link.rate)
+        wrong = "how fast is the link that has such frames? Add --link RATE, in bits a tick";
+    if (wrong != NULL)
+        complain("%s", wrong);
+    return wrong == NULL ? ANSWERED : FAILED;
+}
+
 int options_read(struct options *o, int argc, char **argv)
 {
     const char *store = getenv("DUCHRELIN_STORE");
     *o = (struct options){.store = store != NULL && *store != '\0' ? store : "."};
+    struct given link = {0, 0};
     int words = 0, only_words = 0;
     for (int at = 1; at < argc; at++) {
         if (!only_words && strcmp(argv[at], "--") == 0)
             only_words = 1;
         else if (only_words || argv[at][0] != '-')
             argv[words++] = argv[at];
-        else if (read_option(o, argc, argv, &at) != ANSWERED)
+        else if (read_option(o, &link, argc, argv, &at) != ANSWERED)
             return FAILED;
         if (o->command == HELP || o->command == VERSION)
             return ANSWERED;
@@ -162,5 +205,7 @@ int options_read(struct options *o, int argc, char **argv)
     }
     o->names = argv + 1;
     o->count = (size_t)words - 1;
-    return check_command(o, argv[0]) != ANSWERED ? FAILED : check_picture(o);
+    if (check_command(o, argv[0]) != ANSWERED || check_picture(o) != ANSWERED)
+        return FAILED;
+    return check_link(o, link);
 }

@@ -2,7 +2,7 @@
 #ifndef OPTIONS_H
 #define OPTIONS_H
 
-#include <stddef.h>
+#include "ask.h"
 
 enum command { NO_COMMAND, LIST, SHOW, ROUTE, PICTURE, EXPLAIN, HELP, VERSION };
 
@@ -11,6 +11,8 @@ struct options {
     const char *store; /* the folder */
     const char *svg;   /* where the picture goes, "-" for standard output; NULL: as text */
     size_t hop;        /* the hop that is drawn; 0: the whole route */
+    int over_link;     /* the traffic comes over a link, */
+    struct link link;  /* this one */
     char **names;      /* what follows the command */
     size_t count;
 };

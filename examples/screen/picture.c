@@ -14,7 +14,7 @@ static void say_title(struct picture *p, const struct route *r, size_t hop)
         ADD(p->title, "Hop %zu of %zu: %s at %s", hop, r->hop_count, r->traffic.name, r->hops[hop - 1].entry.name);
         return;
     }
-    ADD(p->title, "%s through", r->traffic.name);
+    ADD(p->title, "%s%s through", r->traffic.name, r->over_link ? " over a link," : "");
     for (size_t i = 0; i < r->hop_count; i++)
         ADD(p->title, " %s%s", r->hops[i].entry.name, i + 1 < r->hop_count ? "," : "");
 }
@@ -31,8 +31,13 @@ static void say_lines(struct picture *p, const struct route *r, size_t hop)
     const struct plot *d = &p->plot;
     char name[SHORT_BYTES] = "";
     ADD(name, "%s", r->traffic.name);
-    ADD(p->traffic, "traffic: %s, %" PRIu64 " %s%s", name, d->curve.count, plural(d->curve.count, "bucket", "buckets"),
-        hop > 1 ? ", as it leaves the hop before" : "");
+    ADD(p->traffic, "traffic: %s, %" PRIu64 " %s", name, d->curve.count, plural(d->curve.count, "bucket", "buckets"));
+    if (hop > 1) {
+        ADD(p->traffic, ", as it leaves the hop before");
+    } else if (r->over_link) {
+        ADD(p->traffic, ", over ");
+        add_link(p->traffic, sizeof p->traffic, r->link);
+    }
     ADD(p->served, "served: ");
     add_server(p->served, sizeof p->served, d->server);
     if (hop == 0 && r->hop_count > 1)
@@ -84,7 +89,7 @@ static void say_unknown(struct picture *p, const struct route *r)
 uint64_t picture_make(struct picture *p, const struct route *r, size_t hop)
 {
     memset(p, 0, sizeof *p);
-    uint64_t code = hop == 0 ? plot(&r->traffic.profile.curve, r->joined, &p->plot)
+    uint64_t code = hop == 0 ? plot(&r->comes, r->joined, &p->plot)
                              : plot(&r->hops[hop - 1].enters, r->hops[hop - 1].server, &p->plot);
     if (code != DUCHRELIN_ANSWERED)
         return code;

@@ -36,6 +36,18 @@ void say_authors(FILE *to, const struct route *r)
         fprintf(to, "Every profile of this route was uploaded by an author that is known.\n");
 }
 
+static void about_link(const struct route *r, char to[ABOUT_BYTES])
+{
+    if (r->code == DUCHRELIN_LARGE) {
+        add_text(to, ABOUT_BYTES, "The traffic has as many buckets as there can be, and the link adds one.");
+        return;
+    }
+    add_text(to, ABOUT_BYTES, "It is ");
+    add_link(to, ABOUT_BYTES, r->link);
+    add_text(to, ABOUT_BYTES, ". A rate is 1 to %" PRIu64 ", and a frame has up to %" PRIu64 " bits.", DUCHRELIN_RATE_END - 1,
+             DUCHRELIN_FRAME_END - 1);
+}
+
 /* What the refusal comes from, as far as the screen can tell. */
 static void about_refusal(const struct route *r, char to[ABOUT_BYTES])
 {
@@ -46,6 +58,8 @@ static void about_refusal(const struct route *r, char to[ABOUT_BYTES])
                  e->profile.kind == DUCHRELIN_KIND_CURVE ? "traffic curve" : "port", r->place == 1 ? "traffic" : "a port");
     else if (r->asked == READING)
         about_file(e, to);
+    else if (r->asked == SHAPING)
+        about_link(r, to);
     else if (r->code == DUCHRELIN_UNBOUNDED)
         add_text(to, ABOUT_BYTES,
                  "The traffic brings %" PRIu64 " bits a tick in the long run, and this port serves %" PRIu64 " bits a tick.",
@@ -60,8 +74,12 @@ void say_refusal(const struct route *r)
 {
     char about[ABOUT_BYTES];
     about_refusal(r, about);
-    complain("the route is refused at profile %zu, '%s': %" PRIu64 " %s", r->place, route_entry(r, r->place)->name, r->code,
-             duchrelin_code_name(r->code));
+    if (r->asked == SHAPING)
+        complain("the route is refused at the link that '%s' comes over: %" PRIu64 " %s", r->traffic.name, r->code,
+                 duchrelin_code_name(r->code));
+    else
+        complain("the route is refused at profile %zu, '%s': %" PRIu64 " %s", r->place, route_entry(r, r->place)->name, r->code,
+                 duchrelin_code_name(r->code));
     say_code(stderr, r->code, about);
     fprintf(stderr, "No figure is given. The profiles are as they were.\n");
 }
@@ -101,7 +119,13 @@ static void say_figures(const struct route *r)
 static void say_line(const struct route *r)
 {
     const char *first = r->hops[0].entry.name, *last = r->hops[r->hop_count - 1].entry.name;
-    printf("WRITE DOWN: delay %" PRIu64 " %s, for %s through ", r->delay, plural(r->delay, "tick", "ticks"), r->traffic.name);
+    printf("WRITE DOWN: delay %" PRIu64 " %s, for %s", r->delay, plural(r->delay, "tick", "ticks"), r->traffic.name);
+    if (r->over_link) {
+        char link[ABOUT_BYTES] = "";
+        add_link(link, sizeof link, r->link);
+        printf(" over %s,", link);
+    }
+    printf(" through ");
     if (r->hop_count == 1)
         printf("%s\n", first);
     else if (r->hop_count == 2)
@@ -110,11 +134,26 @@ static void say_line(const struct route *r)
         printf("%zu ports, %s to %s\n", r->hop_count, first, last);
 }
 
+static void say_link(const struct route *r)
+{
+    char words[2 * ABOUT_BYTES] = "The traffic comes over ";
+    add_link(words, sizeof words, r->link);
+    add_text(words, sizeof words, ": ");
+    add_curve(words, sizeof words, &r->comes);
+    add_text(words, sizeof words, ". The time on the link itself is in no delay below.");
+    put_lines(stdout, 0, 0, words);
+}
+
 void say_report(const struct route *r)
 {
-    printf("Route of %s through %zu %s\n\n", r->traffic.name, r->hop_count, plural(r->hop_count, "port", "ports"));
+    printf("Route of %s%s through %zu %s\n\n", r->traffic.name, r->over_link ? ", over a link and" : "", r->hop_count,
+           plural(r->hop_count, "port", "ports"));
     say_authors(stdout, r);
     printf("\n");
+    if (r->over_link) {
+        say_link(r);
+        printf("\n");
+    }
     say_figures(r);
     printf("\n");
     say_line(r);

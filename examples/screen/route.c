@@ -69,15 +69,18 @@ static int run_hop(struct route *r, size_t i, struct curve *behind)
 int route_run(struct route *r)
 {
     uint64_t codes[QUESTIONS] = {due(&r->traffic, DUCHRELIN_KIND_CURVE)};
+    r->comes = r->traffic.profile.curve;
+    if (codes[READING] == DUCHRELIN_ANSWERED && r->over_link)
+        codes[SHAPING] = ask_shape(&r->traffic.profile.curve, r->link, &r->comes);
     if (smallest(r, 1, codes) != ANSWERED)
         return REFUSED;
-    struct curve next = r->traffic.profile.curve;
+    struct curve next = r->comes;
     for (size_t i = 0; i < r->hop_count; i++) {
         r->hops[i].enters = next;
         if (run_hop(r, i, &next) != ANSWERED)
             return REFUSED;
     }
-    codes[BACKLOG] = ask_backlog(&r->traffic.profile.curve, r->joined, &r->backlog);
-    codes[DELAY] = ask_delay(&r->traffic.profile.curve, r->joined, &r->delay);
+    codes[BACKLOG] = ask_backlog(&r->comes, r->joined, &r->backlog);
+    codes[DELAY] = ask_delay(&r->comes, r->joined, &r->delay);
     return smallest(r, r->hop_count + 1, codes);
 }

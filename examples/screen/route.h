@@ -1,11 +1,11 @@
-/* A route: traffic through ports, hop by hop and as one. */
+/* A route: traffic through ports, hop by hop and as one; it may come to the first one over a link. */
 #ifndef ROUTE_H
 #define ROUTE_H
 
 #include "store.h"
 
 /* What is asked at a profile, in the order of asking. */
-enum question { READING, JOINING, BACKLOG, DELAY, BEHIND, QUESTIONS };
+enum question { READING, SHAPING, JOINING, BACKLOG, DELAY, BEHIND, QUESTIONS };
 
 /* A hop: its port, the curve that enters it, and its two figures. */
 struct hop {
@@ -17,17 +17,20 @@ struct hop {
 
 struct route {
     struct entry traffic;
+    int over_link;      /* the traffic comes over a link, */
+    struct link link;   /* this one, */
+    struct curve comes; /* and comes to the first port as this curve */
     size_t hop_count;
     struct hop hops[DUCHRELIN_MOST_SERVERS];
-    struct server joined; /* all ports as one, and the first curve's figures there */
+    struct server joined; /* all ports as one, and the figures there of what comes */
     uint64_t backlog, delay;
     uint64_t code;       /* 0, or the number of the earliest refusal, */
     size_t place;        /* its profile, the traffic being 1, */
     enum question asked; /* and what had been asked */
 };
 
-/* Loads the traffic and the ports by their names: one of traffic, then 1 to 32 ports. Complains and answers FAILED where one cannot be
- * read at all. */
+/* Loads the traffic and the ports by their names: one of traffic, then 1 to 32 ports, and no link. Complains and answers FAILED where
+ * one cannot be read at all. */
 int route_load(struct route *r, const struct store *s, char **names, size_t count);
 void route_free(struct route *r);
 

@@ -33,13 +33,18 @@ static void say_buckets(FILE *to, const struct curve *c, int all)
     say_sentence(to, words);
 }
 
-static void say_curve(FILE *to, const struct curve *c, int all_buckets)
+void add_curve(char *to, size_t room, const struct curve *c)
 {
     uint64_t burst = 0;
-    char words[ABOUT_BYTES] = "";
     ask_burst(c, &burst);
-    add_text(words, sizeof words, "traffic: up to %" PRIu64 " %s at once, %" PRIu64 " a tick in the long run", burst,
-             plural(burst, "bit", "bits"), long_run_rate(c));
+    add_text(to, room, "up to %" PRIu64 " %s at once, %" PRIu64 " a tick in the long run", burst, plural(burst, "bit", "bits"),
+             long_run_rate(c));
+}
+
+static void say_curve(FILE *to, const struct curve *c, int all_buckets)
+{
+    char words[ABOUT_BYTES] = "traffic: ";
+    add_curve(words, sizeof words, c);
     say_sentence(to, words);
     say_buckets(to, c, all_buckets);
 }
@@ -48,6 +53,15 @@ void add_server(char *to, size_t room, struct server s)
 {
     add_text(to, room, "%" PRIu64 " %s a tick after a latency of %" PRIu64 " %s", s.rate, plural(s.rate, "bit", "bits"), s.latency,
              plural(s.latency, "tick", "ticks"));
+}
+
+void add_link(char *to, size_t room, struct link l)
+{
+    add_text(to, room, "a link of %" PRIu64 " %s a tick", l.rate, plural(l.rate, "bit", "bits"));
+    if (l.frame == 0)
+        add_text(to, room, ", bit by bit");
+    else
+        add_text(to, room, " with frames of up to %" PRIu64 " %s", l.frame, plural(l.frame, "bit", "bits"));
 }
 
 static void say_server(FILE *to, struct server s)

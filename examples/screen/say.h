@@ -12,6 +12,12 @@ void say_entry(FILE *to, const struct entry *e, int all_buckets);
 /* Adds to a text what a port does: "6 bits a tick after a latency of 4 ticks". */
 void add_server(char *to, size_t room, struct server s);
 
+/* Adds to a text what a link is: "a link of 100 bits a tick with frames of up to 12304 bits". */
+void add_link(char *to, size_t room, struct link l);
+
+/* Adds to a text what traffic brings: "up to 2 bits at once, 3 a tick in the long run". */
+void add_curve(char *to, size_t room, const struct curve *c);
+
 /* What a code means and what to do about it, each under its own heading; between them, where `here` is not "", what it comes from. */
 void say_code(FILE *to, uint64_t code, const char *here);
 

@@ -11,6 +11,9 @@ SHOWN = [
     "route meter spur-coupler spur-gateway",
     "route camera-hd spur-coupler",
     "route camera-hd hub-100m radio-50m",
+    "route camera-hd hub-100m",
+    "route camera-hd hub-100m --link 100 --frame 12304",
+    "route camera-hd hub-100m --link 100 --frame 0",
 ]
 
 
