@@ -91,8 +91,8 @@ static inline const char *duchrelin_code_advice(uint64_t code)
     case DUCHRELIN_COUNT:
         return "Leave buckets out, which keeps the figures on the safe side, or plan the route in two parts.";
     case DUCHRELIN_RANGE:
-        return "Put the number right: rates and latencies go up to 1048575, bursts, frames and ticks up to 1099511627775, and the rate of a "
-               "port or a link starts at 1.";
+        return "Put the number right: rates and latencies go up to 1048575, bursts, frames and ticks up to 1099511627775, and the rate "
+               "of a port or a link starts at 1.";
     case DUCHRELIN_FORM:
         return "Ask whoever uploaded the profile to write it again with our writer. A program passes the list through "
                "duchrelin_normalise first.";

@@ -149,12 +149,12 @@ def link(curve, chance):
     out of range with some chance."""
     place = rng.randrange(len(curve))
     (before, lower), (after, higher) = curve[max(place - 1, 0)], curve[place]
-    rate = rng.choice([1, 2, rng.randint(1, 20), before, (before + after + 1) // 2, after, curve[0][0] + 1, rng.randrange(RATE_END), RATE_END - 1])
-    rate = min(RATE_END - 1, max(1, rate))
+    rates = [1, 2, rng.randint(1, 20), before, (before + after + 1) // 2, after, curve[0][0] + 1, rng.randrange(RATE_END), RATE_END - 1]
+    rate = min(RATE_END - 1, max(1, rng.choice(rates)))
     crossing = Fraction(higher - lower, before - after) if before > after else Fraction(0)
     touching = int(before * crossing + lower - rate * crossing)
-    frame = rng.choice([0, 0, 1, rng.randint(0, 20), higher + rng.randint(-1, 1), touching + rng.randint(-1, 1), rng.randrange(FRAME_END), FRAME_END - 1])
-    frame = min(FRAME_END - 1, max(0, frame))
+    frames = [0, 0, 1, rng.randint(0, 20), higher + rng.randint(-1, 1), touching + rng.randint(-1, 1), rng.randrange(FRAME_END)]
+    frame = min(FRAME_END - 1, max(0, rng.choice(frames + [FRAME_END - 1])))
     if rng.random() < chance:
         return rng.choice([[rng.choice([0, RATE_END, 2**64 - 1]), frame], [rate, rng.choice([FRAME_END, 2**64 - 1])]])
     return [rate, frame]

@@ -107,7 +107,14 @@ pub fn sum(f: &[u64], g: &[u64], out: &mut [u64]) -> Answer
 }
 
 // The curve held down by a link's bucket: its rate, and its longest frame at once.
-pub fn shape_in(f: &[u64], rate: u64, frame: u64, table: &mut [u64], at: usize, room: usize) -> Answer
+pub fn shape_in(
+    f: &[u64],
+    rate: u64,
+    frame: u64,
+    table: &mut [u64],
+    at: usize,
+    room: usize,
+) -> Answer
     ensures { λ r. ⌜ PartOutcome (shaping (now (f .entry)) rate frame) at room (now (table .entry)) (now (table .exit)) (r .code) (r .count) ⌝ }
 {
     let code = curve_and_link(f, rate, frame);
