@@ -3,15 +3,15 @@
 -- Assumes nothing.
 use mathlib.Core.Path.{_≡_, refl, sym, _∙_, ap, subst}
 use mathlib.Core.Logic.{_⊎_, inl, inr, _≢_, _↔_}
-use mathlib.Core.List.{List, [], _∷_, _++_, List·Memᴰ·head}
+use mathlib.Core.List.{List, [], _∷_, List·Memᴰ·head}
 use Prim.Native.Nat.{ℕ, _+_, _-_, _*_, _^_, _≤_, _<_, min}
 use native.Mathlib.Nat.{le-refl, min-eq-left, mul-le-mul-left}
 use native.Mathlib.Omega.{arith}
 use lib.Dec.{lit≤}
-use lib.ListN.{length, take}
-use Rattle.meaning.specs.Curve.{Bucket, _∈_, buckets, flat, curveOf, listOf, bucketAt, valueAt, reads, Lower, linkBucket, Shape}
+use lib.ListN.{length}
+use Rattle.meaning.specs.Curve.{Bucket, _∈_, buckets, curveOf, listOf, bucketAt, valueAt, reads, Lower, linkBucket, Shape}
 use Rattle.meaning.specs.Server.{Server, last}
-use Rattle.meaning.specs.Refusal.{Refusal, LIST, COUNT, RANGE, FORM, number, _when_, _or_, Clear, AllInRange, curveLines, over, Question, Outcome}
+use Rattle.meaning.specs.Refusal.{Refusal, RANGE, number, _when_, _or_, Clear, InRange, AllInRange, curveLines, over, Question, Outcome}
 use Rattle.meaning.specs.CurveQuestions.{lowering, linkLine, shaping, BurstOutcome}
 use Rattle.meaning.specs.ServerQuestions.{BacklogOutcome, DelayOutcome}
 use Rattle.meaning.specs.Figures.{C}
@@ -20,10 +20,11 @@ use Rattle.meaning.proofs.Lists.{curve-list, list-length, EachInRange, 
 use Rattle.meaning.proofs.Figures.{table}
 use Rattle.meaning.proofs.curve.Value.{value-least}
 use Rattle.meaning.proofs.curve.Curves.{value-both}
+use Rattle.meaning.proofs.server.Behind.{backlog-rises}
+use Rattle.meaning.proofs.server.Delay.{delay-rises}
 use Rattle.meaning.proofs.outcome.Outcomes.{clear-or, From, from-when, up-to-when, asked-as}
 use Rattle.meaning.proofs.outcome.Answers.{shaping-asks, outcome-code, code-zero, code-wins, clear-form, clear-list, clear-fits, fits-few, fits-ranged, readBack, answered-list, figure-answered, shape-answers, link-clear, sound-clear, OnlyAnswer, only-answered, only-answer}
-use Rattle.meaning.proofs.outcome.Demands.{answered-backlog, answered-delay}
-use Rattle.meaning.proofs.outcome.KnownServers.{c-form, c-fits, one, one-form}
+use Rattle.meaning.proofs.outcome.KnownServers.{c-form, c-fits, one-form}
 use Rattle.meaning.proofs.outcome.AtOnce.{read-at-zero}
 use Rattle.meaning.proofs.outcome.Slips.{second-counts}
 
@@ -91,21 +92,23 @@ module _
           mul-le-mul-left q longer,
         )
 
+    -- at every tick too;
+    longer-read : (t : ℕ) → reads (curveOf (readBack after count)) t ≤ reads (curveOf (readBack after′ count′)) t
+    unfolding reads
+    longer-read t = longer-frame t 1 (lit≤ tt)
+
     -- its backlog is no smaller,
     pub longer-frame-backlog :
-        (s : Server) {n n′ : ℕ} → BacklogOutcome (readBack after count) s 0 n → BacklogOutcome (readBack after′ count′) s 0 n′ → n ≤ n′
-    unfolding reads
-    longer-frame-backlog s b b′ =
-        let g = answered-backlog (readBack after count) s b in
-        omega (arith, g .reached, longer-frame (g .at) 1 (lit≤ tt), answered-backlog (readBack after′ count′) s b′ .greatest (g .at))
+        (s : Server) {n n′ : ℕ}
+        → BacklogOutcome (readBack after count) s 0 n → BacklogOutcome (readBack after′ count′) s 0 n′ → n ≤ n′
+    unfolding BacklogOutcome
+    longer-frame-backlog s b b′ = backlog-rises _ _ s longer-read (figure-answered b .1) (figure-answered b′ .1)
 
     -- and neither is its delay
     pub longer-frame-delay :
         (s : Server) {n n′ : ℕ} → DelayOutcome (readBack after count) s 0 n → DelayOutcome (readBack after′ count′) s 0 n′ → n ≤ n′
-    unfolding reads DelayOutcome
-    longer-frame-delay s b b′ =
-        let enough = answered-delay (readBack after′ count′) s b′ .suffices in
-        figure-answered b .1 .smallest _ (λ t. omega (arith, longer-frame t 1 (lit≤ tt), enough t))
+    unfolding DelayOutcome
+    longer-frame-delay s d d′ = delay-rises _ _ s longer-read (figure-answered d .1) (figure-answered d′ .1)
 
 -- ---- Said in two other ways.
 
@@ -119,7 +122,8 @@ bit-by-bit f d =
 
 module _ {before after : List ℕ} {code count : ℕ} where
   -- with frames of 0 bits it is what it was, answers and refusals
-  pub no-frames : (f : List ℕ) (d : ℕ) → Outcome (shaping f d 0) before after code count ↔ Outcome (bit-by-bit f d) before after code count
+  pub no-frames :
+      (f : List ℕ) (d : ℕ) → Outcome (shaping f d 0) before after code count ↔ Outcome (bit-by-bit f d) before after code count
   unfolding shaping
   no-frames f d = (
     asked-as (shaping f d 0) (bit-by-bit f d) fewer more (λ g n. n) (λ g n. n),
@@ -150,11 +154,14 @@ module _ {before after : List ℕ} {code count : ℕ} where
       link : List ℕ
       link = listOf (linkBucket d l ∷ [])
 
+      within : AllInRange (curveOf link) → InRange (linkBucket d l)
+      within all = rw curve-list at all (linkBucket d l) (List·Memᴰ·head refl)
+
       to-curve : (r : Refusal) → shaping f d l .operands r → lowering f link .operands r
       to-curve r (inl h) = inl h
       to-curve r (inr (e, inl still)) = absurd (omega arith)
-      to-curve r (inr (e, inr (inl fast))) = inr (inl (inr (e, λ all. omega (arith, rw curve-list at all (linkBucket d l) (List·Memᴰ·head refl) .rate-fits))))
-      to-curve r (inr (e, inr (inr long))) = inr (inl (inr (e, λ all. omega (arith, rw curve-list at all (linkBucket d l) (List·Memᴰ·head refl) .burst-fits))))
+      to-curve r (inr (e, inr (inl fast))) = inr (inl (inr (e, λ all. omega (arith, within all .rate-fits))))
+      to-curve r (inr (e, inr (inr long))) = inr (inl (inr (e, λ all. omega (arith, within all .burst-fits))))
 
       fits : d < 2 ^ 20 → l < 2 ^ 40 → AllInRange (curveOf link)
       fits slow short = rw curve-list (all-in-range (linkBucket d l ∷ []) (record { rate-fits = slow; burst-fits = short }, tt))
@@ -204,7 +211,7 @@ pub shape-with-frames : OnlyAnswer (shaping (listOf slow) 10 2) (listOf C) 2
 unfolding buckets
 shape-with-frames = only-shape (omega arith) (table .frames .1) (omega arith)
 
--- C obeys every link that is no slower than 10 and has frames of 2 bits or more: it stays, 2^40-1 being taken
+-- C obeys every link that is no slower than 10 and has frames of 2 bits or more, up to the longest: by these it stays
 pub c-stays :
     {d l : ℕ} → 10 ≤ d → d < 2 ^ 20 → 2 ≤ l → l < 2 ^ 40 → OnlyAnswer (shaping (listOf C) d l) (listOf C) 2
 unfolding buckets
@@ -241,7 +248,7 @@ module _ {before after : List ℕ} {code count : ℕ} (f : List ℕ) (d l : ℕ)
 
 -- ---- Wrong answers.
 
--- The frame left out: what is answered has then no burst, and where both the curve has one and the frame a bit, it has
+-- The frame left out: what is answered would have no burst, and it has one where the curve has one and the frame a bit
 pub frame-left-out :
     (f : List ℕ) (d l : ℕ) {before after : List ℕ} {count : ℕ} (burst : ℕ) → 1 ≤ burst → 1 ≤ l → BurstOutcome f 0 burst
     → Outcome (shaping f d l) before after 0 count → BurstOutcome (readBack after count) 0 0 → ⊥
@@ -264,7 +271,7 @@ frame-on-every-bucket {before} o =
     let e : buckets (10 ∷ 2 ∷ 3 ∷ 22 ∷ []) ≡ C = written-same _ C before refl (only-answered shape-with-frames o .after-same) in
     omega (arith, ap (λ (f : List Bucket). last f .burst) e)
 
--- The frame in the rate's place, be the rate the frame or nothing at all: (2,10) or (2,0) alone
+-- The frame in the rate's place, with the rate as the frame or with nothing: {(2,10)} or {(2,0)}, one bucket where C has two
 pub frame-for-rate :
     {before : List ℕ} (k : Bucket) → Outcome (shaping (listOf slow) 10 2) before (over (listOf (k ∷ [])) before) 0 1 → ⊥
 frame-for-rate k o = omega (arith, only-answered shape-with-frames o .figure-same)

@@ -100,3 +100,8 @@ behind-is f s n slow =
 pub backlog-is : (f : List Bucket) (s : RateLatency) → NormalForm f → last f .rate ≤ s .rate → Backlog f s (backlog f s)
 unfolding backlog
 backlog-is f s n slow = backlog-behind (n .some) (behind-is f s n slow)
+
+-- a curve that is at no tick above another has no larger backlog
+pub backlog-rises :
+    (f g : List Bucket) (s : RateLatency) {m n : ℕ} → ((t : ℕ) → reads f t ≤ reads g t) → Backlog f s m → Backlog g s n → m ≤ n
+backlog-rises f g s below b c = omega (arith, b .reached, below (b .at), c .greatest (b .at))

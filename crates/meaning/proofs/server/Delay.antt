@@ -70,3 +70,8 @@ delay-is {f} s n slow some =
           rw (ne-eqb (reads f 1) 0 e)
           (delay-from-excess f s _ (excess-is (s .rate) n slow) (rounded-up-is _ (s .rate) some) e)
     ]
+
+-- a curve that is at no tick above another has no larger delay
+pub delay-rises :
+    (f g : List Bucket) (s : RateLatency) {m n : ℕ} → ((t : ℕ) → reads f t ≤ reads g t) → Delay f s m → Delay g s n → m ≤ n
+delay-rises f g s {n = n} below d e = d .smallest n (λ t. omega (arith, below t, e .suffices t))
