@@ -71,6 +71,8 @@ void figures_tests(void)
     test("shape C by links that it obeys");
     gives(shape(C, 10, 2), curve_answer(C));
     gives(shape(C, 12, 5), curve_answer(C));
+    test("shape C by 10 with frames of 1");
+    gives(shape(C, 10, 1), curve_answer(CURVE(10, 1, 3, 20)));
     test("join (1, 2^20-1) with (1, 0), and with (1, 1)");
     gives(join(PORT(1, LATENCY_END - 1), PORT(1, 0)), server_answer(PORT(1, LATENCY_END - 1)));
     refuses(join(PORT(1, LATENCY_END - 1), PORT(1, 1)), DUCHRELIN_LARGE);

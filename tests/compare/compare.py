@@ -156,6 +156,7 @@ def figures(tally):
         ("shape {(3,20)} by 10 with frames of 2", "shape", [curve([(3, 20)]), 10, 2], (0, 2), curve(C)),
         ("shape C by 10 with frames of 2", "shape", [curve(C), 10, 2], (0, 2), curve(C)),
         ("shape C by 12 with frames of 5", "shape", [curve(C), 12, 5], (0, 2), curve(C)),
+        ("shape C by 10 with frames of 1", "shape", [curve(C), 10, 1], (0, 2), curve([(10, 1), (3, 20)])),
         ("join (1, 2^20-1) with (1, 0)", "join", [*most, *Server(1, 0)], (0, *most), None),
         ("join (1, 2^20-1) with (1, 1)", "join", [*most, *Server(1, 1)], (LARGE, *NO_SERVER), None),
         ("64 raw buckets", "normalise", [sixty_four], (0, 1), curve([(7, 9)])),

@@ -327,6 +327,7 @@ pub fn figures(run: &mut Run) {
     curve(run, "shape {(3,20)} by 10 with frames of 2", shape(&list(&[3, 20]), 10, 2), &[10, 2, 3, 20]);
     curve(run, "shape C by links that it obeys", shape(&c, 10, 2), &[10, 2, 3, 20]);
     curve(run, "shape C by links that it obeys", shape(&c, 12, 5), &[10, 2, 3, 20]);
+    curve(run, "shape C by 10 with frames of 1", shape(&c, 10, 1), &[10, 1, 3, 20]);
     let most = server(1, LATENCY_END - 1);
     server_is(run, "join (1, 2^20-1) with (1, 0)", questions::join(most, server(1, 0)), most);
     refused(run, "join (1, 2^20-1) with (1, 1)", questions::join(most, server(1, 1)), LARGE);

@@ -78,9 +78,10 @@ pub record Table : Type 0 where
       × Burst (buckets (0 ∷ 0 ∷ [])) 0
       × Backlog (buckets (0 ∷ 5 ∷ [])) (port 10 0) 5
       × Delay (buckets (0 ∷ 5 ∷ [])) (port 10 0) 1
-  -- {(3,20)} shaped by a link of rate 10, bit by bit and in frames of up to 2 bits, which gives C; and C by two links that it obeys
+  -- {(3,20)} shaped by a link of rate 10, bit by bit and in frames of up to 2 bits, which gives C; and C by that link, which it obeys,
+  -- and by one with frames that are a bit shorter
   pub frames :
       Shape (buckets (3 ∷ 20 ∷ [])) (linkBucket 10 0) (buckets (10 ∷ 0 ∷ 3 ∷ 20 ∷ []))
       × Shape (buckets (3 ∷ 20 ∷ [])) (linkBucket 10 2) C
       × Shape C (linkBucket 10 2) C
-      × Shape C (linkBucket 12 5) C
+      × Shape C (linkBucket 10 1) (buckets (10 ∷ 1 ∷ 3 ∷ 20 ∷ []))

@@ -211,14 +211,24 @@ pub shape-with-frames : OnlyAnswer (shaping (listOf slow) 10 2) (listOf C) 2
 unfolding buckets
 shape-with-frames = only-shape (omega arith) (table .frames .1) (omega arith)
 
+c-clear : Clear (curveLines (listOf C))
+c-clear = sound-clear C c-form (all-in-range C (c-fits .1)) (c-fits .0)
+
 -- C obeys every link that is no slower than 10 and has frames of 2 bits or more, up to the longest: by these it stays
 pub c-stays :
     {d l : ℕ} → 10 ≤ d → d < 2 ^ 20 → 2 ≤ l → l < 2 ^ 40 → OnlyAnswer (shaping (listOf C) d l) (listOf C) 2
 unfolding buckets
 c-stays {d} {l} quick in-range long short =
     subst (OnlyAnswer (shaping (listOf C) d l) (listOf C)) (ap length (curve-list C))
-    (obeying-stays (listOf C) (sound-clear C c-form (all-in-range C (c-fits .1)) (c-fits .0)) (link-clear (omega arith) in-range short)
+    (obeying-stays (listOf C) c-clear (link-clear (omega arith) in-range short)
     (rw curve-list (bucket-obeys (List·Memᴰ·head refl) quick long)))
+
+-- one bit less, and it becomes (10,1),(3,20)
+pub c-shaped : OnlyAnswer (shaping (listOf C) 10 1) (listOf (buckets (10 ∷ 1 ∷ 3 ∷ 20 ∷ []))) 2
+unfolding buckets shaping
+c-shaped =
+    only-answer (shaping-asks (listOf C) 10 1) (clear-or c-clear (link-clear (omega arith) (omega arith) (omega arith)))
+    (rw curve-list (table .frames .3)) (omega arith)
 
 -- ---- Refusals.
 
