@@ -133,10 +133,11 @@ duchrelin_answer duchrelin_lower(const uint64_t *f, size_t f_numbers, const uint
 duchrelin_answer duchrelin_sum(const uint64_t *f, size_t f_numbers, const uint64_t *g, size_t g_numbers,
                                uint64_t *out, size_t out_numbers);
 
-/* The curve shaped by a link: the lower of the curve and the bucket (rate, frame). The rate is the link's, 1 to 2^20-1 bits a tick; the
- * frame is the longest that the link carries, 0 to 2^40-1 bits, as its far end hands a frame on when the last bit is in, all of it at
- * once. A frame of 0 is for a link that hands on bit by bit; one that is too short makes figures too small, one that is too long never.
- * Example: {3,20} by a link of rate 10 with frames of 2 bits gives count 2 and {10,2, 3,20}; with frames of 0, {10,0, 3,20}. */
+/* The curve shaped by a link that the traffic comes over: the lower of the curve and the bucket (rate, frame). The rate is the link's,
+ * 1 to 2^20-1 bits a tick, and the frame its longest one, 0 to 2^40-1 bits: a port that stores and forwards has a frame when the last
+ * bit is in, and then all of it at once. A frame of 0 is for a link that hands on bit by bit. Too short a frame makes backlogs and
+ * delays too small; too long a one never does.
+ * Example: {3,20} and a link of rate 10 with frames of 2 bits give count 2 and {10,2, 3,20}; with frames of 0, {10,0, 3,20}. */
 duchrelin_answer duchrelin_shape(const uint64_t *curve, size_t curve_numbers, uint64_t rate, uint64_t frame,
                                  uint64_t *out, size_t out_numbers);
 

@@ -10,6 +10,10 @@
 #include <sys/mman.h>
 #include <unistd.h>
 
+_Static_assert(DUCHRELIN_RATE_END == RATE_END && DUCHRELIN_LATENCY_END == LATENCY_END && DUCHRELIN_BURST_END == BURST_END
+                   && DUCHRELIN_TICK_END == TICK_END && DUCHRELIN_FRAME_END == FRAME_END,
+               "the header has the ends of the ranges");
+
 /* ---- tests */
 
 static unsigned passed, failed;
