@@ -159,12 +159,16 @@ fn show_joined(words: &[u8], latency: u64) {
     io::write_all(STDOUT_FILENO, b"\n");
 }
 
-fn main() {
+// {(3,20)} shaped by a link of rate 10 with frames of up to so many bits.
+fn show_shaped(words: &[u8], frame: u64) {
     let mut out = [0u64; 4];
-    let shaped = shape(&[3, 20], 10, 0, &mut out);
-    show(b"shape {(3,20)} by 10:", shaped, &out);
-    let shaped = shape(&[3, 20], 10, 2, &mut out);
-    show(b"shape {(3,20)} by 10 with frames of 2:", shaped, &out);
+    let shaped = shape(&[3, 20], 10, frame, &mut out);
+    show(words, shaped, &out);
+}
+
+fn main() {
+    show_shaped(b"shape {(3,20)} by 10:", 0);
+    show_shaped(b"shape {(3,20)} by 10 with frames of 2:", 2);
 
     let raw = spread();
     show_normalised(b"normalise 64 raw buckets:", &raw[..128]);

@@ -15,15 +15,7 @@ main-spec =
     tie.close
     (tie.spec
     (λ c. search needs)
-    (λ c. search needs)
     (λ c κs. search needs)
-    (λ c. search needs)
-    (λ c. search needs)
-    (λ c κs. search needs)
-    (λ c. search needs)
-    (λ c. search needs)
-    (λ c κs. search needs)
-    (λ c. search needs)
     (λ c. search needs)
     (λ c κs. search needs)
     (λ c κs. search needs)

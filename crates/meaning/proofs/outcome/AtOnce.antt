@@ -21,6 +21,7 @@ use Rattle.meaning.proofs.server.Behind.{backlog-behind}
 use Rattle.meaning.proofs.server.Excess.{gap-unique}
 use Rattle.meaning.proofs.outcome.Outcomes.{clear-or}
 use Rattle.meaning.proofs.outcome.Answers.{clear-form, sound-clear, figure-answered, value-answer, one-value, one-burst-outcome, readBack}
+use Rattle.meaning.proofs.outcome.Known.{c-clear}
 use Rattle.meaning.proofs.outcome.Demands.{answered-backlog, answered-behind, port-form}
 use Rattle.meaning.proofs.outcome.KnownServers.{OnlyFigure, only-backlog, only-delay, c-form, c-fits, one, one-form}
 
@@ -73,7 +74,7 @@ unfolding ValueOutcome value
 value-of-c code figure o =
     one-value (listOf C) 0 o
     (FigureOutcome.answered
-    (clear-or (sound-clear C c-form (all-in-range C (c-fits .1)) (c-fits .0)) (λ r h. omega (arith, h .1))) refl refl)
+    (clear-or c-clear (λ r h. omega (arith, h .1))) refl refl)
 
 -- and its burst is 2;
 pub burst-of-c : OnlyFigure (BurstOutcome (listOf C)) 2

@@ -24,7 +24,8 @@ use Rattle.meaning.proofs.server.Behind.{backlog-rises}
 use Rattle.meaning.proofs.server.Delay.{delay-rises}
 use Rattle.meaning.proofs.outcome.Outcomes.{clear-or, From, from-when, up-to-when, asked-as}
 use Rattle.meaning.proofs.outcome.Answers.{shaping-asks, outcome-code, code-zero, code-wins, clear-form, clear-list, clear-fits, fits-few, fits-ranged, readBack, answered-list, figure-answered, shape-answers, link-clear, sound-clear, OnlyAnswer, only-answered, only-answer}
-use Rattle.meaning.proofs.outcome.KnownServers.{c-form, c-fits, one-form}
+use Rattle.meaning.proofs.outcome.Known.{c-clear}
+use Rattle.meaning.proofs.outcome.KnownServers.{one-form}
 use Rattle.meaning.proofs.outcome.AtOnce.{read-at-zero}
 use Rattle.meaning.proofs.outcome.Slips.{second-counts}
 
@@ -126,27 +127,27 @@ module _ {before after : List ℕ} {code count : ℕ} where
       (f : List ℕ) (d : ℕ) → Outcome (shaping f d 0) before after code count ↔ Outcome (bit-by-bit f d) before after code count
   unfolding shaping
   no-frames f d = (
-    asked-as (shaping f d 0) (bit-by-bit f d) fewer more (λ g n. n) (λ g n. n),
-    asked-as (bit-by-bit f d) (shaping f d 0) more fewer (λ g n. n) (λ g n. n),
+    asked-as (shaping f d 0) (bit-by-bit f d) to-old to-new (λ g n. n) (λ g n. n),
+    asked-as (bit-by-bit f d) (shaping f d 0) to-new to-old (λ g n. n) (λ g n. n),
   )
     where
-      fewer : (r : Refusal) → shaping f d 0 .operands r → bit-by-bit f d .operands r
-      fewer r (inl h) = inl h
-      fewer r (inr (e, inl still)) = inr (e, inl still)
-      fewer r (inr (e, inr (inl fast))) = inr (e, inr fast)
-      fewer r (inr (e, inr (inr long))) = absurd (omega arith)
+      to-old : (r : Refusal) → shaping f d 0 .operands r → bit-by-bit f d .operands r
+      to-old r (inl h) = inl h
+      to-old r (inr (e, inl still)) = inr (e, inl still)
+      to-old r (inr (e, inr (inl fast))) = inr (e, inr fast)
+      to-old r (inr (e, inr (inr long))) = absurd (omega arith)
 
-      more : (r : Refusal) → bit-by-bit f d .operands r → shaping f d 0 .operands r
-      more r (inl h) = inl h
-      more r (inr (e, inl still)) = inr (e, inl still)
-      more r (inr (e, inr fast)) = inr (e, inr (inl fast))
+      to-new : (r : Refusal) → bit-by-bit f d .operands r → shaping f d 0 .operands r
+      to-new r (inl h) = inl h
+      to-new r (inr (e, inl still)) = inr (e, inl still)
+      to-new r (inr (e, inr fast)) = inr (e, inr (inl fast))
 
-  -- and by a link that moves it is lower with the link's one bucket as the second curve
+  -- and by a link whose rate is not 0 it is lower with the link's one bucket as the second curve
   pub shape-is-lower :
       (f : List ℕ) (d l : ℕ) → 1 ≤ d
       → Outcome (shaping f d l) before after code count ↔ Outcome (lowering f (listOf (linkBucket d l ∷ []))) before after code count
   unfolding shaping lowering buckets
-  shape-is-lower f d l moves = (
+  shape-is-lower f d l some = (
     asked-as (shaping f d l) (lowering f link) to-curve to-link (λ g n. rw curve-list n) (λ g n. rw curve-list at n),
     asked-as (lowering f link) (shaping f d l) to-link to-curve (λ g n. rw curve-list at n) (λ g n. rw curve-list n),
   )
@@ -211,9 +212,6 @@ pub shape-with-frames : OnlyAnswer (shaping (listOf slow) 10 2) (listOf C) 2
 unfolding buckets
 shape-with-frames = only-shape (omega arith) (table .frames .1) (omega arith)
 
-c-clear : Clear (curveLines (listOf C))
-c-clear = sound-clear C c-form (all-in-range C (c-fits .1)) (c-fits .0)
-
 -- C obeys every link that is no slower than 10 and has frames of 2 bits or more, up to the longest: by these it stays
 pub c-stays :
     {d l : ℕ} → 10 ≤ d → d < 2 ^ 20 → 2 ≤ l → l < 2 ^ 40 → OnlyAnswer (shaping (listOf C) d l) (listOf C) 2
@@ -248,10 +246,10 @@ module _ {before after : List ℕ} {code count : ℕ} (f : List ℕ) (d l : ℕ)
   -- and one of 2^40-1 is never refused for its length: where the curve and the rate are right the code is no operand's
   pub longest-frame : Clear (curveLines f) → 1 ≤ d → d < 2 ^ 20 → l ≤ 2 ^ 40 - 1 → code ≢ 0 → 9 ≤ code
   unfolding shaping number
-  longest-frame clear moves slow short some =
+  longest-frame clear rate slow short some =
       let w = code-wins (outcome-code o) some in
       elim (w .1 .holds) [
-        | inl h ↦ absurd (clear-or clear (link-clear moves slow (omega arith)) (w .0) h)
+        | inl h ↦ absurd (clear-or clear (link-clear rate slow (omega arith)) (w .0) h)
         | inr (inl h) ↦ omega (arith, ap number (h .0), w .2)
         | inr (inr h) ↦ omega (arith, ap number (h .0), w .2)
       ]

@@ -55,7 +55,8 @@ p3-outcome = only-normalise p3-raw (omega arith) (omega arith)
 abbrev second : List Bucket
 second = buckets (4 ∷ 0 ∷ 2 ∷ 2 ∷ [])
 
-c-clear : Clear (curveLines (listOf C))
+-- no line refuses C
+pub c-clear : Clear (curveLines (listOf C))
 unfolding curveOf listOf flat buckets isNormal
 c-clear = curve-clear (listOf C) (omega arith) refl
 

@@ -18,6 +18,7 @@ use Rattle.meaning.proofs.curve.Neighbours.{neighbours-sound}
 use Rattle.meaning.proofs.server.Joining.{residual-unique}
 use Rattle.meaning.proofs.outcome.Outcomes.{Same, clear-or, line-hit, refused-then, refusal}
 use Rattle.meaning.proofs.outcome.Answers.{sound-clear, OnlyAnswer, is-answered, only-single}
+use Rattle.meaning.proofs.outcome.Known.{c-clear}
 use Rattle.meaning.proofs.outcome.Demands.{single-behind, one-backlog, one-delay, one-join, one-residual, hop-answered, one-hop, SameHop, unbounded-behind, unbounded-backlog, unbounded-delay}
 
 -- The only outcome of a question that a figure answers: code 0 and this figure.
@@ -216,7 +217,7 @@ p10-outcome code left o =
     one-residual (listOf C) (port 6 1) o
     (ServerOutcome.answered
     (clear-or
-    (clear-or (clear-or (sound-clear C c-form (all-in-range C (c-fits .1)) (c-fits .0)) (λ r h. h .1 (omega arith))) (λ r h. omega (arith, rw curve-list at (h .1))))
+    (clear-or (clear-or c-clear (λ r h. h .1 (omega arith))) (λ r h. omega (arith, rw curve-list at (h .1))))
     (λ r h. h .1 .2 (rw (residual-unique (h .1 .1) right) (omega arith))))
     refl
     right)
