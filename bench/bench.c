@@ -13,7 +13,8 @@
 #include <string.h>
 #include <time.h>
 
-enum { CURVE_NUMBERS = DUCHRELIN_CURVE_NUMBERS, MOST_INPUTS = 16 };
+/* So many inputs that the processor cannot know by heart which way each of them branches. */
+enum { CURVE_NUMBERS = DUCHRELIN_CURVE_NUMBERS, INPUTS = 256 };
 
 /* What a call answers and leaves behind. */
 struct outcome {
@@ -110,8 +111,7 @@ static void route(const struct library *l, const struct input *i, struct outcome
 }
 
 /*
- * The cases: what is asked, over which inputs, and whether the named form answers it too. A question whose cost is far above
- * the others' is asked over few inputs.
+ * The cases: what is asked, over which inputs, and whether the named form answers it too.
  */
 
 struct timing_case {
@@ -120,59 +120,59 @@ struct timing_case {
     question *ask;
     maker *make;
     size_t buckets;
-    size_t inputs;
     bool named;
 };
 
 static const struct timing_case cases[] = {
-    { "normalise", "a curve as it is", normalise, make_one_curve, 1, 16, true },
-    { "normalise", "a curve as it is", normalise, make_one_curve, 8, 16, true },
-    { "normalise", "a curve as it is", normalise, make_one_curve, 64, 16, true },
-    { "normalise", "shuffled, all useful", normalise, make_shuffled, 8, 16, true },
-    { "normalise", "shuffled, all useful", normalise, make_shuffled, 64, 16, true },
-    { "normalise", "shuffled, few useful", normalise, make_mostly_useless, 8, 16, true },
-    { "normalise", "shuffled, few useful", normalise, make_mostly_useless, 64, 16, true },
-    { "value", "", value, make_one_curve, 1, 16, false },
-    { "value", "", value, make_one_curve, 8, 16, false },
-    { "value", "", value, make_one_curve, 64, 16, false },
-    { "burst", "", burst, make_one_curve, 1, 16, false },
-    { "burst", "", burst, make_one_curve, 8, 16, false },
-    { "burst", "", burst, make_one_curve, 64, 16, false },
-    { "lower", "two curves that cross", lower, make_two_curves, 1, 16, true },
-    { "lower", "two curves that cross", lower, make_two_curves, 8, 16, true },
-    { "lower", "two curves that cross", lower, make_two_curves, 64, 16, true },
-    { "sum", "steps that differ", sum, make_summands, 1, 16, true },
-    { "sum", "steps that differ", sum, make_summands, 8, 16, true },
-    { "sum", "steps that differ", sum, make_summands, 64, 2, true },
-    { "sum", "steps of one size", sum, make_stairs, 64, 16, true },
-    { "shape", "", shape, make_curve_and_link, 1, 16, true },
-    { "shape", "", shape, make_curve_and_link, 8, 16, true },
-    { "shape", "", shape, make_curve_and_link, 64, 16, true },
-    { "join", "", join, make_servers, 0, 16, false },
-    { "behind", "", behind, make_curve_and_server, 1, 16, true },
-    { "behind", "", behind, make_curve_and_server, 8, 16, true },
-    { "behind", "", behind, make_curve_and_server, 64, 16, true },
-    { "backlog", "", backlog, make_curve_and_server, 1, 16, false },
-    { "backlog", "", backlog, make_curve_and_server, 8, 16, false },
-    { "backlog", "", backlog, make_curve_and_server, 64, 16, false },
-    { "delay", "", delay, make_curve_and_server, 1, 16, false },
-    { "delay", "", delay, make_curve_and_server, 8, 16, false },
-    { "delay", "", delay, make_curve_and_server, 64, 16, false },
-    { "residual", "", residual, make_cross_and_server, 1, 16, false },
-    { "residual", "", residual, make_cross_and_server, 8, 16, false },
-    { "residual", "", residual, make_cross_and_server, 64, 16, false },
-    { "read", "a curve", read_profile, make_curve_file, 1, 16, true },
-    { "read", "a curve", read_profile, make_curve_file, 8, 16, true },
-    { "read", "a curve", read_profile, make_curve_file, 64, 16, true },
-    { "read", "a server", read_profile, make_server_file, 0, 16, true },
-    { "write_curve", "", write_curve, make_one_curve, 1, 16, false },
-    { "write_curve", "", write_curve, make_one_curve, 8, 16, false },
-    { "write_curve", "", write_curve, make_one_curve, 64, 16, false },
-    { "write_server", "", write_server, make_servers, 0, 16, false },
-    { "route", "32 hops, all buckets stay", route, make_route_of_full_curves, 1, 16, true },
-    { "route", "32 hops, all buckets stay", route, make_route_of_full_curves, 8, 16, true },
-    { "route", "32 hops, all buckets stay", route, make_route_of_full_curves, 64, 16, true },
-    { "route", "32 hops, each cuts", route, make_route_of_cuts, 64, 16, true },
+    { "normalise", "a curve as it is", normalise, make_one_curve, 1, true },
+    { "normalise", "a curve as it is", normalise, make_one_curve, 8, true },
+    { "normalise", "a curve as it is", normalise, make_one_curve, 64, true },
+    { "normalise", "shuffled, all useful", normalise, make_shuffled, 8, true },
+    { "normalise", "shuffled, all useful", normalise, make_shuffled, 64, true },
+    { "normalise", "shuffled, few useful", normalise, make_mostly_useless, 8, true },
+    { "normalise", "shuffled, few useful", normalise, make_mostly_useless, 64, true },
+    { "value", "", value, make_one_curve, 1, false },
+    { "value", "", value, make_one_curve, 8, false },
+    { "value", "", value, make_one_curve, 64, false },
+    { "burst", "", burst, make_one_curve, 1, false },
+    { "burst", "", burst, make_one_curve, 8, false },
+    { "burst", "", burst, make_one_curve, 64, false },
+    { "lower", "two curves that cross", lower, make_two_curves, 1, true },
+    { "lower", "two curves that cross", lower, make_two_curves, 8, true },
+    { "lower", "two curves that cross", lower, make_two_curves, 64, true },
+    { "sum", "crossings apart", sum, make_crossings_apart, 1, false },
+    { "sum", "crossings apart", sum, make_crossings_apart, 8, false },
+    { "sum", "crossings apart", sum, make_crossings_apart, 32, false },
+    { "sum", "crossings together", sum, make_crossings_together, 64, false },
+    { "sum", "a third of them together, 64 in the sum", sum, make_crossings_dealt_out, 64, false },
+    { "shape", "", shape, make_curve_and_link, 1, true },
+    { "shape", "", shape, make_curve_and_link, 8, true },
+    { "shape", "", shape, make_curve_and_link, 64, true },
+    { "join", "", join, make_servers, 0, false },
+    { "behind", "", behind, make_curve_and_server, 1, true },
+    { "behind", "", behind, make_curve_and_server, 8, true },
+    { "behind", "", behind, make_curve_and_server, 64, true },
+    { "backlog", "", backlog, make_curve_and_server, 1, false },
+    { "backlog", "", backlog, make_curve_and_server, 8, false },
+    { "backlog", "", backlog, make_curve_and_server, 64, false },
+    { "delay", "", delay, make_curve_and_server, 1, false },
+    { "delay", "", delay, make_curve_and_server, 8, false },
+    { "delay", "", delay, make_curve_and_server, 64, false },
+    { "residual", "", residual, make_cross_and_server, 1, false },
+    { "residual", "", residual, make_cross_and_server, 8, false },
+    { "residual", "", residual, make_cross_and_server, 64, false },
+    { "read", "a curve", read_profile, make_curve_file, 1, true },
+    { "read", "a curve", read_profile, make_curve_file, 8, true },
+    { "read", "a curve", read_profile, make_curve_file, 64, true },
+    { "read", "a server", read_profile, make_server_file, 0, true },
+    { "write_curve", "", write_curve, make_one_curve, 1, false },
+    { "write_curve", "", write_curve, make_one_curve, 8, false },
+    { "write_curve", "", write_curve, make_one_curve, 64, false },
+    { "write_server", "", write_server, make_servers, 0, false },
+    { "route", "32 hops, all buckets stay", route, make_route_of_full_curves, 1, true },
+    { "route", "32 hops, all buckets stay", route, make_route_of_full_curves, 8, true },
+    { "route", "32 hops, all buckets stay", route, make_route_of_full_curves, 64, true },
+    { "route", "32 hops, each cuts", route, make_route_of_cuts, 64, true },
 };
 
 enum { CASES = sizeof cases / sizeof cases[0] };
@@ -183,12 +183,12 @@ static const char *const library_names[LIBRARIES] = { "the archive", "plain C", 
 
 static bool answers(int library, const struct timing_case *c) { return library != NAMED || c->named; }
 
-static struct input inputs[MOST_INPUTS];
+static struct input inputs[INPUTS];
 
 static void make_inputs(const struct timing_case *c)
 {
     memset(inputs, 0, sizeof inputs);
-    for (size_t i = 0; i < c->inputs; i++)
+    for (size_t i = 0; i < INPUTS; i++)
         c->make(&inputs[i], c->buckets, 1 + i);
 }
 
@@ -204,7 +204,7 @@ static void asked_fresh(const struct timing_case *c, int library, size_t i, stru
 
 static bool all_agree(const struct timing_case *c)
 {
-    for (size_t i = 0; i < c->inputs; i++) {
+    for (size_t i = 0; i < INPUTS; i++) {
         struct outcome plain;
         asked_fresh(c, PLAIN, i, &plain);
         if (plain.figures[0] != DUCHRELIN_ANSWERED) {
@@ -244,7 +244,7 @@ static double time_round(const struct timing_case *c, const struct library *libr
 {
     double start = now();
     for (unsigned pass = 0; pass < passes; pass++)
-        for (size_t i = 0; i < c->inputs; i++)
+        for (size_t i = 0; i < INPUTS; i++)
             c->ask(library, &inputs[i], &scratch);
     return now() - start;
 }
@@ -272,7 +272,7 @@ static void time_case(const struct timing_case *c, const struct library *const t
     double start = now();
     for (int round = 0; round < FEWEST_ROUNDS || (round < MOST_ROUNDS && now() - start < TIME_FOR_ONE_CASE); round++)
         for (int l = 0; l < count; l++) {
-            double each = time_round(c, timed[l], passes[l]) / ((double)passes[l] * (double)c->inputs);
+            double each = time_round(c, timed[l], passes[l]) / ((double)passes[l] * INPUTS);
             if (each < nanoseconds[l])
                 nanoseconds[l] = each;
         }
@@ -331,8 +331,10 @@ static void print_idle_time(void)
 }
 
 /*
- * Stack. It is what a function takes beyond a call that does nothing, the most over all its cases.
+ * Stack. It is what a function takes beyond a call that does nothing, the most over some inputs of all its cases.
  */
+
+enum { STACK_INPUTS = 16 };
 
 struct one_call {
     const struct timing_case *of;
@@ -349,7 +351,7 @@ static void call_once(const void *what)
 static size_t stack_of(const struct timing_case *c, const struct library *library)
 {
     size_t most = 0;
-    for (size_t i = 0; i < c->inputs; i++) {
+    for (size_t i = 0; i < STACK_INPUTS; i++) {
         struct one_call call = { c, library, &inputs[i] }, idle = { c, &idle_library, &inputs[i] };
         size_t touched = stack_touched(call_once, &call), by_itself = stack_touched(call_once, &idle);
         if (touched > by_itself && touched - by_itself > most)
@@ -379,8 +381,13 @@ static void print_stacks(void)
     }
 }
 
-int main(void)
+/* With the word "stack" only what each function takes of the stack. */
+int main(int count, char *words[])
 {
+    if (count == 2 && strcmp(words[1], "stack") == 0) {
+        print_stacks();
+        return 0;
+    }
     if (!print_times())
         return 1;
     print_idle_time();

@@ -131,27 +131,44 @@ void make_two_curves(struct input *input, size_t buckets, uint64_t seed)
              || !same_bucket(lower + 2 * answer.count - 2, input->g + input->g_numbers - 2));
 }
 
-/* Two curves of over 32 buckets need common crossings, or their sum has over 64. */
-void make_summands(struct input *input, size_t buckets, uint64_t seed)
+/* Two curves with these times, and falls of their own. */
+static void build_summands(struct input *input, size_t f_buckets, struct steps *f, size_t g_buckets, struct steps *g, uint64_t *state)
 {
-    struct steps steps;
-    draw_times(&steps, 0, &seed);
-    draw_falls(&steps, &seed);
-    input->f_numbers = build_curve(input->f, buckets, &steps, true, &seed);
-    if (buckets <= MOST_BUCKETS / 2)
-        draw_times(&steps, 0, &seed);
-    draw_falls(&steps, &seed);
-    input->g_numbers = build_curve(input->g, buckets, &steps, true, &seed);
+    draw_falls(f, state);
+    draw_falls(g, state);
+    input->f_numbers = build_curve(input->f, f_buckets, f, true, state);
+    input->g_numbers = build_curve(input->g, g_buckets, g, true, state);
 }
 
-void make_stairs(struct input *input, size_t buckets, uint64_t seed)
+void make_crossings_apart(struct input *input, size_t buckets, uint64_t seed)
 {
-    struct steps steps;
-    draw_times(&steps, 0, &seed);
-    for (size_t k = 0; k < MOST_BUCKETS; k++)
-        steps.falls[k] = 1;
-    input->f_numbers = build_curve(input->f, buckets, &steps, true, &seed);
-    input->g_numbers = build_curve(input->g, buckets, &steps, true, &seed);
+    struct steps f, g;
+    draw_times(&f, 0, &seed);
+    draw_times(&g, 0, &seed);
+    build_summands(input, buckets, &f, buckets, &g, &seed);
+}
+
+void make_crossings_together(struct input *input, size_t buckets, uint64_t seed)
+{
+    struct steps f, g;
+    draw_times(&f, 0, &seed);
+    g = f;
+    build_summands(input, buckets, &f, buckets, &g, &seed);
+}
+
+void make_crossings_dealt_out(struct input *input, size_t buckets, uint64_t seed)
+{
+    struct steps all, f = { 0 }, g = { 0 };
+    size_t f_crossings = 0, g_crossings = 0;
+    draw_times(&all, 0, &seed);
+    for (size_t k = 0; k + 1 < buckets; k++) {
+        uint64_t whose = draw(&seed, 3);
+        if (whose != 0)
+            f.times[f_crossings++] = all.times[k];
+        if (whose != 1)
+            g.times[g_crossings++] = all.times[k];
+    }
+    build_summands(input, f_crossings + 1, &f, g_crossings + 1, &g, &seed);
 }
 
 void make_curve_and_server(struct input *input, size_t buckets, uint64_t seed)

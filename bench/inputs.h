@@ -21,8 +21,9 @@ maker make_curve_and_link;    /* a link that cuts the curve, or just does not */
 maker make_shuffled;          /* the same, its buckets in any order */
 maker make_mostly_useless;    /* raw buckets of which few are useful */
 maker make_two_curves;        /* two curves that cross, the lower of which has at most 64 buckets */
-maker make_summands;          /* two curves, their sum of at most 64 buckets; the pairs' rates all differ, or almost */
-maker make_stairs;            /* two curves of steps of one size, so that few of the pairs' rates differ */
+maker make_crossings_apart;   /* two curves of so many buckets, each with crossings of its own */
+maker make_crossings_together; /* two curves of so many buckets that have the same crossings */
+maker make_crossings_dealt_out; /* two curves whose sum has so many: each crossing is the one's, the other's or both's */
 maker make_curve_and_server;  /* a server that cuts the curve at some bucket */
 maker make_servers;           /* two servers */
 maker make_cross_and_server;  /* a server that has some service left beside the curve */

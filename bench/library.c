@@ -15,8 +15,8 @@ const struct library plain_library = {
 };
 
 const struct library named_library = {
-    .normalise = named_normalise, .lower = named_lower, .sum = named_sum, .shape = named_shape, .behind = named_behind,
-    .read = named_read, .route = named_route,
+    .normalise = named_normalise, .lower = named_lower, .shape = named_shape, .behind = named_behind, .read = named_read,
+    .route = named_route,
 };
 
 static duchrelin_answer idle_normalise(const uint64_t *raw, size_t raw_numbers, uint64_t *out, size_t out_numbers)

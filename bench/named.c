@@ -12,11 +12,6 @@ struct ends {
     uint64_t low, low_over, high, high_over;
 };
 
-/* Past the ends of every rate and burst that is asked about: two curves added, or a curve moved by a latency. */
-#define RAW_RATE_END (2 * RATE_END)
-
-enum { MOST_PAIRS = MOST_BUCKETS * MOST_BUCKETS };
-
 static uint64_t difference(uint64_t a, uint64_t b) { return a > b ? a - b : 0; }
 
 /* A steeper bucket is above the candidate only past their crossing. */
@@ -88,7 +83,7 @@ static struct found steepest_below(const uint64_t *raw, size_t count, uint64_t b
 static size_t choose(const uint64_t *raw, size_t count, uint64_t chosen[CURVE_NUMBERS])
 {
     size_t useful = 0;
-    uint64_t bound = RAW_RATE_END;
+    uint64_t bound = RATE_END;
 next_candidate:
     for (;;) {
         struct found found = steepest_below(raw, count, bound);
@@ -144,22 +139,6 @@ duchrelin_answer named_lower(const uint64_t *f, size_t f_numbers, const uint64_t
     if (code != 0)
         return refused_answer(code);
     return settle_both(f, f_numbers, g, g_numbers, out, out_numbers);
-}
-
-duchrelin_answer named_sum(const uint64_t *f, size_t f_numbers, const uint64_t *g, size_t g_numbers,
-                           uint64_t *out, size_t out_numbers)
-{
-    uint64_t code = curves_refusal(f, f_numbers, g, g_numbers);
-    if (code != 0)
-        return refused_answer(code);
-    uint64_t raw[2 * MOST_PAIRS];
-    size_t count = 0;
-    for (size_t i = 0; i < f_numbers; i += 2)
-        for (size_t j = 0; j < g_numbers; j += 2, count++) {
-            raw[2 * count] = f[i] + g[j];
-            raw[2 * count + 1] = f[i + 1] + g[j + 1];
-        }
-    return settle(raw, count, out, out_numbers);
 }
 
 duchrelin_answer named_shape(const uint64_t *curve, size_t curve_numbers, uint64_t rate, uint64_t frame,

@@ -22,7 +22,7 @@
  * 0, and no list or buffer has changed.
  *
  * Every call ends. None allocates, keeps anything between calls or calls the system, so calls on separate lists may run at the
- * same time. duchrelin_sum takes about 66 KiB of stack, duchrelin_route less than 8 KiB, each other function less than 4 KiB.
+ * same time. duchrelin_route takes less than 8 KiB of stack, each other function less than 4 KiB.
  *
  * duchrelin_words.h has each code in words. examples/header.c runs the examples that stand below.
  */
@@ -128,7 +128,9 @@ duchrelin_figure duchrelin_burst(const uint64_t *curve, size_t curve_numbers);
 duchrelin_answer duchrelin_lower(const uint64_t *f, size_t f_numbers, const uint64_t *g, size_t g_numbers,
                                  uint64_t *out, size_t out_numbers);
 
-/* The two curves added: every bucket of f added to every bucket of g, in normal form.
+/* The two curves added: what both let through together, at every time. The sum turns where one of the two does, so it has fewer
+ * buckets than the two together. It is LARGE where it has over 64, or where the two first rates add up to 2^20 or the two last
+ * bursts to 2^40.
  * Example: {10,2, 3,20} and {4,0, 2,2} give count 3 and {14,2, 12,4, 5,22}. */
 duchrelin_answer duchrelin_sum(const uint64_t *f, size_t f_numbers, const uint64_t *g, size_t g_numbers,
                                uint64_t *out, size_t out_numbers);

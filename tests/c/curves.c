@@ -179,7 +179,18 @@ static void adding(void)
     /* Crossings at 1/2 and 1 for the first, 1 for the second: (3,10) is added up to 1, (1,12) past it. */
     sum_gives("sum, one crossing between ticks", CURVE(10, 0, 4, 3, 0, 7), CURVE(3, 10, 1, 12), CURVE(13, 10, 7, 13, 1, 19));
 
+    /* Crossings at 1/2 and 1/3: the second curve turns first, though both turn within the first tick. */
+    sum_gives("sum, two crossings within a tick", CURVE(3, 0, 1, 1), CURVE(4, 0, 1, 1), CURVE(7, 0, 4, 1, 2, 2));
+    sum_gives("sum, two crossings within a tick, the other way round", CURVE(4, 0, 1, 1), CURVE(3, 0, 1, 1), CURVE(7, 0, 4, 1, 2, 2));
+    /* Both at 1, as 2/2 and as 3/3. */
+    sum_gives("sum, one crossing as two fractions", CURVE(2, 0, 0, 2), CURVE(3, 0, 0, 3), CURVE(5, 0, 0, 5));
+
     const uint64_t half_rate = RATE_END / 2, half_burst = BURST_END / 2;
+    /* At 2^20, and some two ticks later; then both at 2^20. */
+    sum_gives("sum, long and steep, crossings one after the other", CURVE(half_rate, 0, 0, half_burst),
+              CURVE(half_rate - 1, 0, 0, half_burst - 1), CURVE(RATE_END - 1, 0, half_rate - 1, half_burst, 0, BURST_END - 1));
+    sum_gives("sum, long and steep, one crossing", CURVE(half_rate, 0, 0, half_burst), CURVE(half_rate / 2, 0, 0, half_burst / 2),
+              CURVE(half_rate + half_rate / 2, 0, 0, half_burst + half_burst / 2));
     sum_gives("sum, rates adding to 2^20-1", CURVE(half_rate, 0), CURVE(half_rate - 1, 0), CURVE(RATE_END - 1, 0));
     sum_refuses("sum, rates adding to 2^20", CURVE(half_rate, 0), CURVE(half_rate, 0), 9);
     sum_refuses("sum, rates adding to 2^21-2", CURVE(RATE_END - 1, 0), CURVE(RATE_END - 1, 0), 9);

@@ -17,7 +17,7 @@ import servers
 from drawing import rng
 from library import BYTES_OUT, CALLS, NOTHING_OUT
 from rules import (
-    BURST_END, COUNT, CURVE_NUMBERS, FORM, HEADER, LARGE, LATENCY_END, LENGTH, MOST_BUCKETS, MOST_SERVERS, PAD, RANGE, UNBOUNDED,
+    BURST_END, COUNT, CURVE_NUMBERS, FORM, HEADER, LARGE, LATENCY_END, LENGTH, MOST_BUCKETS, MOST_SERVERS, PAD, RANGE, RATE_END, UNBOUNDED,
     NO_SERVER, Server, curve_list, raw_list,
 )
 
@@ -248,10 +248,31 @@ def link_among_buckets():
     return [curve_list(curve[:place] + curve[place + 1:]), *curve[place]]
 
 
-def sum_of_many_pairs():
+def shared_crossings():
     """Curves of 30 to 64 buckets whose sum has one bucket more than the stock has crossings, or fewer."""
     stock = rng.sample(drawing.SHARED, rng.choice([40, 60, 63, 63, 64, 70]))
     return [curve_list(drawing.curve_of(rng.randint(30, 64), 0, 0, stock)) for _ in range(2)]
+
+
+def crossings_dealt_out():
+    """Curves that have 62 to 65 crossings between them, so that their sum has 63 to 66 buckets. Some crossings are both's."""
+    curve = drawing.curve_of(rng.randint(63, 66), 2000, 300)
+    steps = [(after[1] - before[1], before[0] - after[0]) for before, after in zip(curve, curve[1:])]
+    dealt = [[], []]
+    for rise, fall in steps:
+        for place in rng.choice([[0], [1], [0], [1], [0, 1]]):
+            scale = rng.randint(1, 3)
+            dealt[place].append((rise * scale, fall * scale))
+    return [curve_list(drawing.steps_to_curve(part, 0, 0)) for part in dealt]
+
+
+def ends_added():
+    """Curves whose first rates, last bursts or both add up to the last number of their range, to one less or to one more."""
+    f, g = drawing.small_curve(), drawing.small_curve()
+    more_rate, more_burst = rng.choice([(1, 0), (0, 1), (1, 1)])
+    more_rate *= max(0, min(RATE_END - 1 - g[0][0], RATE_END - 1 + rng.randint(-1, 1) - f[0][0] - g[0][0]))
+    more_burst *= max(0, min(BURST_END - 1 - g[-1][1], BURST_END - 1 + rng.randint(-1, 1) - f[-1][1] - g[-1][1]))
+    return [curve_list(f), curve_list([(rate + more_rate, burst + more_burst) for rate, burst in g])]
 
 
 def burst_at_the_end():
@@ -297,7 +318,9 @@ def campaigns(tally):
     run("lower, long curves", 50, two_curves(large, 0.2), "lower")
     run("lower, 60 to 68 buckets", 25, parts_of_one_curve, "lower")
     run("sum, small curves", 3000, two_curves(small, 0.35), "sum")
-    run("sum, up to 4096 pairs", 24, sum_of_many_pairs, "sum")
+    run("sum, crossings that both have", 24, shared_crossings, "sum")
+    run("sum, 62 to 65 crossings dealt out", 100, crossings_dealt_out, "sum")
+    run("sum, rates and bursts at the ends of their ranges", 2000, ends_added, "sum")
     run("shape, small curves", 3000, linked(small, 0.35), "shape")
     run("shape, long curves", 50, linked(large, 0.2), "shape")
     run("shape, 60 to 65 buckets", 25, link_among_buckets, "shape")

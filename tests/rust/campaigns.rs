@@ -1,7 +1,7 @@
 //! The comparisons: campaigns of pseudo-random questions of one kind, the references against the
 //! definitions, and the figures that the scope has written down.
 
-use super::curves::{added, all_pairs, hull, is_normal_form_of};
+use super::curves::{all_pairs, hull, is_normal_form_of};
 use super::lists::*;
 use super::ports::*;
 use super::profiles::{curve_file, server_file};
@@ -59,8 +59,8 @@ fn dealt_out(rng: &mut Rng) -> Question {
     of_two(Lower, &curve_list(&f), &curve_list(&g))
 }
 
-fn parallel_sum(rng: &mut Rng) -> Question {
-    let [f, g] = large_pair(rng).map(|curve| curve_list(&curve));
+fn sum_of(curves: [Vec<Bucket>; 2]) -> Question {
+    let [f, g] = curves.map(|curve| curve_list(&curve));
     of_two(Sum, &f, &g)
 }
 
@@ -159,8 +159,11 @@ const CAMPAIGNS: &[(&str, usize, Draw)] = &[
     ("lower, long curves", 3_000, |rng| long_of_two(rng, Lower)),
     ("lower, one curve dealt out", 3_000, dealt_out),
     ("sum, short curves", 150_000, |rng| short_of_two(rng, Sum)),
-    ("sum, long curves", 80, |rng| long_of_two(rng, Sum)),
-    ("sum, long curves with parallel edges", 200, parallel_sum),
+    ("sum, long curves", 2_000, |rng| long_of_two(rng, Sum)),
+    ("sum, long curves that share crossings", 2_000, |rng| sum_of(large_pair(rng))),
+    ("sum, 58 to 68 crossings dealt out", 3_000, |rng| sum_of(crossings_dealt_out(rng))),
+    ("sum, crossings that differ by less than a tick", 20_000, |rng| sum_of(nearly_together(rng))),
+    ("sum, rates and bursts at the ends of their ranges", 20_000, |rng| sum_of(ends_added(rng))),
     ("shape, short curves", 100_000, short_shape),
     ("shape, long curves", 3_000, long_shape),
     ("shape, 60 to 65 buckets", 3_000, link_dealt_out),
@@ -219,9 +222,9 @@ pub fn references(run: &mut Run) {
         let good = is_normal_form_of(&hull(&raw), &raw);
         run.check("reference: the hull is the normal form", good, || format!("{raw:?}"));
         let [f, g] = if long { large_pair(&mut run.rng) } else { small_pair(&mut run.rng) };
-        let (sum, pairs) = (added(&f, &g), all_pairs(&f, &g));
-        let good = sum == hull(&pairs) && is_normal_form_of(&sum, &pairs);
-        run.check("reference: the sum by edges is that by all pairs", good, || format!("{f:?} {g:?}"));
+        let pairs = all_pairs(&f, &g);
+        let good = is_normal_form_of(&hull(&pairs), &pairs);
+        run.check("reference: the hull of all pairs is the sum", good, || format!("{f:?} {g:?}"));
         let server = bounded_server_for(&mut run.rng, &f);
         let good = behind(&f, server) == behind_by_definition(&f, server);
         run.check("reference: behind in one pass is that by definition", good, || format!("{f:?} {server:?}"));

@@ -1,7 +1,8 @@
 //! The reference for curves. It sees a bucket as the point (rate, burst) of a plane. A bucket is
 //! needed, being the only lowest one at some positive time, exactly if its point is a corner of the
 //! lower left hull of all points. So normal form is a walk over the sorted points that drops what
-//! is no corner, and the sum of two curves is the hull that has the edges of both, sorted by slope.
+//! is no corner, and the sum of two curves is that of all their buckets added one to one: no list is
+//! merged here.
 
 use super::rules::*;
 use std::cmp::Ordering;
@@ -54,23 +55,6 @@ pub fn hull(raw: &[Bucket]) -> Vec<Bucket> {
         corners.push(next);
     }
     corners
-}
-
-/// The sum of two curves in normal form: the edges of both in turn, those of one slope together.
-pub fn added(f: &[Bucket], g: &[Bucket]) -> Vec<Bucket> {
-    let (mut i, mut j) = (0, 0);
-    let mut sum = Vec::new();
-    loop {
-        sum.push(f[i].plus(g[j]));
-        let next = match (f.get(i + 1), g.get(j + 1)) {
-            (None, None) => return sum,
-            (Some(_), None) => Ordering::Less,
-            (None, Some(_)) => Ordering::Greater,
-            (Some(&a), Some(&b)) => Edge::between(f[i], a).order(&Edge::between(g[j], b)),
-        };
-        i += usize::from(next.is_le());
-        j += usize::from(next.is_ge());
-    }
 }
 
 /// All buckets (r+r', b+b').

@@ -353,6 +353,49 @@ pub fn large_pair(rng: &mut Rng) -> [Vec<Bucket>; 2] {
     both.map(|curve| maybe_raised(rng, curve))
 }
 
+/// 58 to 68 crossings, of which each is the one curve's, the other's or both's.
+pub fn crossings_dealt_out(rng: &mut Rng) -> [Vec<Bucket>; 2] {
+    let count = 58 + rng.place(11);
+    let (fall, rise) = rng.pick(&[(200, 300), (RATE_END / 512, BURST_END / 512)]);
+    let mut dealt: [Vec<Edge>; 2] = Default::default();
+    for next in edges(rng, count, |rng| edge(rng.within(1, fall), rng.within(1, rise))) {
+        let place = rng.place(3);
+        if place < 2 {
+            dealt[place].push(next);
+        } else {
+            dealt[0].push(next);
+            let times = rng.within(1, 3);
+            dealt[1].push(edge(next.fall * times, next.rise * times));
+        }
+    }
+    dealt.map(|edges| path(&edges))
+}
+
+/// Two curves whose crossings all lie within one tick.
+pub fn nearly_together(rng: &mut Rng) -> [Vec<Bucket>; 2] {
+    let tick = rng.pick(&[0, 1, 2, 1000, 1 << 18]);
+    let most = rng.pick(&[3, 8, 1000]);
+    [0, 1].map(|_| {
+        let count = 1 + rng.place(4);
+        let draw = |rng: &mut Rng| {
+            let fall = rng.within(2, most);
+            edge(fall, tick * fall + rng.within(1, fall - 1))
+        };
+        let curve = path(&edges(rng, count, draw));
+        maybe_raised(rng, curve)
+    })
+}
+
+/// Two curves whose first rates, last bursts or both add up to the last number of their range, to one less or to one more.
+pub fn ends_added(rng: &mut Rng) -> [Vec<Bucket>; 2] {
+    let (f, g) = (small_curve(rng), small_curve(rng));
+    let rate = (RATE_END - 2 + rng.below(3)).saturating_sub(f[0].rate + g[0].rate);
+    let bursts = f[f.len() - 1].burst + g[g.len() - 1].burst;
+    let burst = (BURST_END - 2 + rng.below(3)).saturating_sub(bursts);
+    let (more_rate, more_burst) = rng.pick(&[(rate, 0), (0, burst), (rate, burst)]);
+    [f, raised(&g, more_rate, more_burst)]
+}
+
 /// Two curves that have something to do with each other.
 pub fn small_pair(rng: &mut Rng) -> [Vec<Bucket>; 2] {
     match rng.below(6) {
@@ -377,14 +420,6 @@ pub fn small_pair(rng: &mut Rng) -> [Vec<Bucket>; 2] {
             let curves = both.map(|edge| path(&[edge]));
             curves.map(|curve| maybe_raised(rng, curve))
         }
-        _ => {
-            // Rates or bursts that add up to the end of the range, or to one less.
-            let (f, g) = (small_curve(rng), small_curve(rng));
-            let rate = (RATE_END - rng.below(2)).saturating_sub(f[0].rate + g[0].rate);
-            let bursts = f[f.len() - 1].burst + g[g.len() - 1].burst;
-            let burst = (BURST_END - rng.below(2)).saturating_sub(bursts);
-            let (more_rate, more_burst) = rng.pick(&[(rate, 0), (0, burst), (rate, burst)]);
-            [f, raised(&g, more_rate, more_burst)]
-        }
+        _ => ends_added(rng),
     }
 }

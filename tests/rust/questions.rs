@@ -1,6 +1,6 @@
 //! Questions to the library, one for each call, and what the references say that it must give.
 
-use super::curves::{added, curve_lines, hull, large_lines, least, raw_lines};
+use super::curves::{all_pairs, curve_lines, hull, large_lines, least, raw_lines};
 use super::profiles::{curve_file, parsed, server_file, Profile, CURVE_KIND, SERVER_KIND};
 use super::routes;
 use super::rules::*;
@@ -310,7 +310,7 @@ fn answer(question: &Question) -> Exact {
         Value => of_figure(u64::try_from(least(&f, (*tick).into(), 1)).expect("64 bits")),
         Burst => of_figure(f.iter().map(|bucket| bucket.burst).min().expect("a bucket")),
         Lower => of_curve(hull(&[f, curve_buckets(g)].concat())),
-        Sum => of_curve(added(&f, &curve_buckets(g))),
+        Sum => of_curve(hull(&all_pairs(&f, &curve_buckets(g)))),
         Shape => of_curve(hull(&[f, vec![link.bucket()]].concat())),
         Join => of_server(servers::join(server, *next)),
         Behind | Backlog | Delay if last_rate(&f) > server.rate => nothing(line(UNBOUNDED, true)),

@@ -20,7 +20,13 @@ const ONE_TOO_MANY: &str = "65 buckets";
 const LARGE_COUNT: &str = "LARGE by the count alone";
 const LARGE_RATE: &str = "LARGE by a rate alone";
 const LARGE_BURST: &str = "LARGE by a burst alone";
+const LAST_RATE: &str = "a rate of 2^20-1";
+const FIRST_RATE_BEYOND: &str = "LARGE by a rate of 2^20";
 const LAST_BURST: &str = "a burst of 2^40-1";
+const FIRST_BURST_BEYOND: &str = "LARGE by a burst of 2^40";
+const TOGETHER: &str = "30 crossings that both have";
+const ALL_TOGETHER: &str = "63 crossings, all of which both have";
+const LESS_THAN_A_TICK: &str = "crossings of the two that are not the same and lie within one tick";
 const LAST_LATENCY: &str = "a latency of 2^20-1";
 const FIRST_LATENCY_BEYOND: &str = "LARGE by a latency of 2^20";
 const OWN_BUCKET: &str = "the server's own bucket in the answer";
@@ -58,7 +64,12 @@ fn required(operation: Operation) -> Vec<&'static str> {
             let places = [LINK_FIRST, LINK_BETWEEN, LINK_LAST, LINK_USELESS, LINK_TOUCHES];
             [&lists[..], &operands, &[ONE_TOO_MANY, LARGE_COUNT], &frames, &places].concat()
         }
-        Sum => [&lists[..], &operands, &[ONE_TOO_MANY, LARGE_COUNT, LARGE_RATE, LARGE_BURST, LAST_BURST]].concat(),
+        Sum => {
+            let large = [ONE_TOO_MANY, LARGE_COUNT, LARGE_RATE, LARGE_BURST];
+            let ends = [LAST_RATE, FIRST_RATE_BEYOND, LAST_BURST, FIRST_BURST_BEYOND];
+            let crossings = [TOGETHER, ALL_TOGETHER, LESS_THAN_A_TICK];
+            [&lists[..], &operands, &large, &ends, &crossings].concat()
+        }
         Join => vec![LAST_LATENCY, FIRST_LATENCY_BEYOND],
         Behind => {
             let own = [OWN_BUCKET, NO_OWN_BUCKET, BEFORE_CROSSING, AFTER_CROSSING, EQUAL_RATE];
@@ -195,6 +206,9 @@ impl Run {
         if operation == Shape {
             self.notes_of_shape(question, &exact.buckets);
         }
+        if operation == Sum {
+            self.notes_of_sum(question);
+        }
         let needed = exact.output.len();
         if exact.more == 0 && needed > 0 {
             self.note(operation, EXACT_ROOM, room == needed);
@@ -251,7 +265,10 @@ impl Run {
         self.note(operation, LARGE_COUNT, many && !steep && !high);
         self.note(operation, LARGE_RATE, !many && steep && !high);
         self.note(operation, LARGE_BURST, !many && !steep && high);
+        self.note(operation, LAST_RATE, !many && !high && answer[0].rate == RATE_END - 1);
+        self.note(operation, FIRST_RATE_BEYOND, !many && !high && answer[0].rate == RATE_END);
         self.note(operation, LAST_BURST, !many && !steep && last == BURST_END - 1);
+        self.note(operation, FIRST_BURST_BEYOND, !many && !steep && last == BURST_END);
         self.note(operation, FULL, answer.len() == MOST_BUCKETS && !steep && !high);
     }
 
@@ -271,6 +288,20 @@ impl Run {
             let curve = hull(&[curve_buckets(&question.f), vec![less.bucket()]].concat());
             self.note(Shape, LINK_TOUCHES, between(place(&curve, less), curve.len()));
         }
+    }
+
+    /// Notes how the crossings of two curves lie to each other.
+    fn notes_of_sum(&mut self, question: &Question) {
+        let [f, g] = [&question.f, &question.g].map(|list| {
+            let edges = |two: &[Bucket]| Edge::between(two[0], two[1]);
+            curve_buckets(list).windows(2).map(edges).collect::<Vec<Edge>>()
+        });
+        let same = |a: &Edge, b: &Edge| a.order(b).is_eq();
+        let near = |a: &Edge, b: &Edge| a.rise / a.fall == b.rise / b.fall && !same(a, b);
+        let together = f.iter().filter(|a| g.iter().any(|b| same(a, b))).count();
+        self.note(Sum, TOGETHER, together >= 30);
+        self.note(Sum, ALL_TOGETHER, together == MOST_BUCKETS - 1);
+        self.note(Sum, LESS_THAN_A_TICK, f.iter().any(|a| g.iter().any(|b| near(a, b))));
     }
 
     /// Notes which way the curve behind a server came about.

@@ -124,4 +124,12 @@ module _ (l : List ℕ) {k : ℕ} where
 pub left-from : (f : List Bucket) (k : ℕ) {here : Bucket} → k < length f → here ≡ nth f k → drop k f ≡ here ∷ drop (k + 1) f
 left-from f k h is = rw add-one (drop-cons f k _ h ∙ ap (λ (j : Bucket). j ∷ drop (suc k) f) (sym is))
 
+-- so where what is left is known, the next one is, and what is left after it
+pub left-is :
+    (f : List Bucket) (k : ℕ) {here : Bucket} {rest : List Bucket} → k < length f → drop k f ≡ here ∷ rest
+    → (here ≡ nth f k) × (drop (k + 1) f ≡ rest)
+left-is f k {here} {rest} h e =
+    let known : nth f k ∷ drop (k + 1) f ≡ here ∷ rest = sym (left-from f k h refl) ∙ e in
+    (cc (known), cc (known))
+
 pub ruleset nths = (curve-count, nth-none, nth-is)

@@ -29,9 +29,7 @@ pub const RATE_END: u64 = 1_048_576;
 
 pub const BURST_END: u64 = 1_099_511_627_776;
 
-// Raw buckets, before normal form is taken, are within twice that.
-pub const RAW_RATE_END: u64 = 2_097_152;
-
+// Bursts before normal form is taken, as those behind a server are, stay below twice that.
 pub const RAW_BURST_END: u64 = 2_199_023_255_552;
 
 // Latencies are below 2^20.

@@ -7,3 +7,5 @@ pub mod Reads
 pub mod Usefulness
 pub mod Normal
 pub mod Curves
+pub mod Merging
+pub mod Turns

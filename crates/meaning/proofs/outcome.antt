@@ -10,4 +10,5 @@ pub mod EveryInput
 pub mod KnownServers
 pub mod AtOnce
 pub mod Frames
+pub mod Sums
 pub mod ServerSlips

@@ -5,7 +5,7 @@ use mathlib.Core.Bool.{Bool, true, false, _&&_, cond}
 use mathlib.Core.List.{List, [], _∷_, _++_}
 use Prim.Native.Nat.{ℕ, _+_, _-_, _*_, _/_, min, max}
 use lib.Dec.{leb, ltb, eqb}
-use Rattle.meaning.specs.Curve.{Bucket, reads}
+use Rattle.meaning.specs.Curve.{Bucket, added, reads}
 use Rattle.meaning.specs.Server.{RateLatency, slower, last}
 
 -- The smaller of two codes, where 0 is none.
@@ -95,6 +95,30 @@ chosen raw (k ∷ f) = cond (isUseful raw k) (insert k (chosen raw f)) (chosen r
 unfoldable pub normal : List Bucket → List Bucket
 unfolding chosen
 normal raw = chosen raw raw
+
+-- The crossing of k with the next bucket l comes before that of j with i.
+unfoldable pub crossesBefore : Bucket → Bucket → Bucket → Bucket → Bool
+crossesBefore k l j i = ltb ((l .burst - k .burst) * (j .rate - i .rate)) ((i .burst - j .burst) * (k .rate - l .rate))
+
+-- The sum of two curves in normal form by merging, from a bucket of each on, k with f behind it and j with g: what follows k and j
+-- added. The next bucket takes a step in the curve whose crossing comes first, and in both where they come together.
+unfoldable pub sumAfter : Bucket → List Bucket → Bucket → List Bucket → List Bucket
+unfolding added crossesBefore
+sumAfter k [] j [] = []
+sumAfter k (l ∷ f) j [] = added l j ∷ sumAfter l f j []
+sumAfter k [] j (i ∷ g) = added k i ∷ sumAfter k [] i g
+sumAfter k (l ∷ f) j (i ∷ g) =
+    let first = sumAfter l f j (i ∷ g) in
+    let second = sumAfter k (l ∷ f) i g in
+    let both = sumAfter l f i g in
+    cond (crossesBefore k l j i) (added l j ∷ first) (cond (crossesBefore j i k l) (added k i ∷ second) (added l i ∷ both))
+
+-- The whole of it starts with the first bucket of both.
+unfoldable pub mergedSum : List Bucket → List Bucket → List Bucket
+unfolding sumAfter
+mergedSum [] g = []
+mergedSum (k ∷ f) [] = []
+mergedSum (k ∷ f) (j ∷ g) = added k j ∷ sumAfter k f j g
 
 -- M, the greatest of what is read at s less R·s, for a curve in normal form: it is reached at the last whole tick
 -- up to the crossing with the first bucket of rate at most R, or at the one after.

@@ -4,33 +4,37 @@
 use mathlib.Core.Path.{_≡_, refl, sym, _∙_, ap, subst}
 use mathlib.Core.Logic.{inl, inr, ⊎-elim}
 use mathlib.Core.List.{List, [], _∷_, _++_}
-use Prim.Native.Nat.{ℕ, _+_, _%_, _^_, _≤_, _<_}
+use Prim.Native.Nat.{ℕ, _+_, _^_, _≤_, _<_}
 use native.Mathlib.Omega.{arith}
-use native.Mathlib.Nat.{lt-of-not-le, mul-le-mul}
+use native.Mathlib.Nat.{lt-of-not-le}
 use lib.ListN.{length, take, drop, length-append}
 use lib.Seq.{take-at, length-take-le}
 use lib.Dec.{lit≤}
-use Rattle.meaning.specs.Curve.{Bucket, buckets, flat, curveOf, added, pairs, linkBucket, NormalOf}
+use Rattle.meaning.specs.Curve.{Bucket, buckets, flat, curveOf, linkBucket, NormalOf}
 use Rattle.meaning.specs.Refusal.{RANGE, number, Lines, _or_, Clear, Verdict, AllInRange, rawLines, curveLines, Question, over, PartOutcome}
 use Rattle.meaning.specs.CurveQuestions.{linkLine, normalising, lowering, summing, shaping}
-use Rattle.meaning.specs.Computed.{earlier}
-use Rattle.meaning.proofs.curve.Curves.{pairs-from, pairs-length, same-buckets-normal}
+use Rattle.meaning.specs.Computed.{earlier, mergedSum}
+use Rattle.meaning.proofs.curve.Unique.{normal-of-unique}
+use Rattle.meaning.proofs.curve.Curves.{same-buckets-normal}
+use Rattle.meaning.proofs.curve.Merging.{merged-sum}
 use Rattle.meaning.proofs.outcome.Answers.{raw-some, list-up-to, curve-up-to}
 use Rattle.meaning.proofs.outcome.Outcomes.{up-to-when, up-to-or, clear-or, verdict-or, refuse-in-part, asked-so-in-part, whole-list}
-use Rattle.settle.specs.Contracts.{AllWide, settling}
+use Rattle.settle.specs.Contracts.{AllWide, settling, delivering}
+use Rattle.settle.proofs.Delivering.{answered-by}
 use Rattle.meaning.proofs.Lists.{append-each, buckets-flat, all-in-range, flat-length}
 use Rattle.checks.proofs.Buckets.{flat-buckets}
-use Rattle.operations.specs.Contracts.{merged}
+use Rattle.operations.specs.Contracts.{Tested, merged}
+use Rattle.operations.proofs.Valuing.{tested}
 use Rattle.operations.proofs.Merging.{merged-from, merged-to, merged-length}
 use Rattle.checks.proofs.Checks.{passed, clear-first, clear-second, list-ranges, list-even, curve-ranged, curve-some, curve-few}
 
--- buckets in their range are within twice their range
+-- buckets in their range are not too wide
 wide : {f : List Bucket} → AllInRange f → AllWide f
 wide all k m =
     let r = all k m in
     record { rate-fits = omega (arith, r .rate-fits); burst-fits = omega (arith, r .burst-fits) }
 
--- A question whose answer is the normal form of some buckets, at least one and each within twice its range, is what `settle`
+-- A question whose answer is the normal form of some buckets, at least one and none too wide, is what `settle`
 -- answers over their numbers.
 module _
     (ask : Question) (f : List Bucket)
@@ -119,7 +123,7 @@ normalise-settled raw {at} {room} {before} {after} {code = code} {count = count}
 
 -- ---- Buckets gathered in local memory.
 
--- What was written over the start of a list is a part of it, of its length, and settles as itself.
+-- What was written over the start of a list is a part of it, of its length, and is settled or handed over as itself.
 module _ (l clean : List ℕ) {raw : List ℕ} {end : ℕ} (e : end ≡ length l) (written : raw ≡ over l clean) where
   pub part-within : end ≤ length raw
   unfolding over
@@ -128,29 +132,22 @@ module _ (l clean : List ℕ) {raw : List ℕ} {end : ℕ} (e : end ≡ length l
   pub part-count : end ≡ length (take end raw)
   part-count = sym (length-take-le end raw part-within)
 
-  pub part-settled :
-      {at room : ℕ} {before after : List ℕ} {code count : ℕ}
-      → PartOutcome (settling (take end raw)) at room before after code count → PartOutcome (settling l) at room before after code count
+  part-is : take end raw ≡ l
   unfolding over
-  part-settled {at} {room} {before} {after} {code} {count} =
-      subst (λ (numbers : List ℕ). PartOutcome (settling numbers) at room before after code count)
-      (ap (take end) written ∙ take-at l (drop (length l) clean) end (sym e))
+  part-is = ap (take end) written ∙ take-at l (drop (length l) clean) end (sym e)
+
+  module _ {at room : ℕ} {before after : List ℕ} {code count : ℕ} where
+    pub part-settled :
+        PartOutcome (settling (take end raw)) at room before after code count → PartOutcome (settling l) at room before after code count
+    part-settled o = rw part-is at o
+
+    pub part-delivered :
+        PartOutcome (delivering (take end raw)) at room before after code count → PartOutcome (delivering l) at room before after code count
+    part-delivered o = rw part-is at o
 
 -- the smaller of two codes is the verdict on both operands
 pub both-verdict : {a b : Lines} {x y code : ℕ} → Verdict a x → Verdict b y → code ≡ earlier x y → Verdict (a or b) code
 both-verdict {a} {b} v w e = subst (Verdict (a or b)) (sym e) (verdict-or v w)
-
--- two buckets in range add up to one within twice the range
-pairs-wide : {f g : List Bucket} → AllInRange f → AllInRange g → AllWide (pairs f g)
-unfolding added
-pairs-wide {f} {g} rf rg k m =
-    let p = pairs-from f g m in
-    let l = rf (p .left) (p .left-inside) in
-    let r = rg (p .right) (p .right-inside) in
-    record {
-      rate-fits = omega (arith, ap (λ (j : Bucket). j .rate) (p .pair-is), l .rate-fits, r .rate-fits);
-      burst-fits = omega (arith, ap (λ (j : Bucket). j .burst) (p .pair-is), l .burst-fits, r .burst-fits);
-    }
 
 -- ---- lower and sum: two curves of which neither is refused.
 
@@ -176,29 +173,19 @@ module _ (f g : List ℕ) {checked : ℕ} (v : Verdict (curveLines f or curveLin
       merged-settled (lowering f g) (curveOf f) (curveOf g) (λ h n. n) (λ h n. n) both-clear (curve-some f first-clear)
       (wide (curve-ranged f first-clear)) (wide (curve-ranged g second-clear))
 
-  -- the pairs are formed of the numbers of the two lists
-  pub sum-ready : AllInRange (buckets f) × (AllInRange (buckets g) × ((length (buckets f) ≤ 64) × ((length (buckets g) ≤ 64) × (length g % 2 ≡ 0))))
-  unfolding curveOf
-  sum-ready = (
-    curve-ranged f first-clear,
-    (
-      curve-ranged g second-clear,
-      (
-        curve-few f first-clear,
-        (curve-few g second-clear, list-even 2 g (buckets g) (clear-first second-clear)),
-      ),
-    ),
-  )
+  -- the two are walked
+  pub sum-ready : Tested (curveOf f) × Tested (curveOf g)
+  sum-ready = (tested f first-clear, tested g second-clear)
 
-  pub sum-settled :
+  -- what they come to when merged is their sum, and no other list is
+  pub sum-delivered :
       {at room : ℕ} {before after : List ℕ} {code count : ℕ}
-      → PartOutcome (settling (flat (pairs (buckets f) (buckets g)))) at room before after code count
+      → PartOutcome (delivering (flat (take 65 (mergedSum (curveOf f) (curveOf g))))) at room before after code count
       → PartOutcome (summing f g) at room before after code count
-  unfolding summing curveOf
-  sum-settled =
-      settled (summing f g) (pairs (curveOf f) (curveOf g)) (λ h n. n) (λ h n. n) both-clear
-      (omega (arith, pairs-length (curveOf f) (curveOf g), mul-le-mul (curve-some f first-clear) (curve-some g second-clear)))
-      (pairs-wide (curve-ranged f first-clear) (curve-ranged g second-clear))
+  unfolding summing
+  sum-delivered =
+      let sum = merged-sum (curveOf f) (curveOf g) (sum-ready .0 .form) (sum-ready .1 .form) in
+      answered-by (summing f g) (mergedSum (curveOf f) (curveOf g)) both-clear sum (λ h n. normal-of-unique n sum) (sum .form .some)
 
 -- ---- shape: a curve and a link of which neither is refused.
 
@@ -244,9 +231,10 @@ pub ruleset asking = (
   shape-settled,
   sum-refused,
   sum-ready,
-  sum-settled,
+  sum-delivered,
   part-within,
   part-count,
   part-settled,
+  part-delivered,
   whole-list,
 )

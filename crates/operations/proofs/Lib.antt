@@ -9,6 +9,5 @@ pub mod Leaving
 pub mod Lining
 pub mod Passing
 pub mod Merging
-pub mod Adding
-pub mod Pairing
+pub mod Summing
 pub mod Asking

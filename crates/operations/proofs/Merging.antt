@@ -15,7 +15,7 @@ use Rattle.meaning.specs.Curve.{Bucket, _∈_, flat}
 use Rattle.meaning.specs.Refusal.{over}
 use Rattle.meaning.proofs.Lists.{flat-length}
 use Rattle.checks.specs.Contracts.{nth}
-use Rattle.checks.proofs.Buckets.{left-from}
+use Rattle.checks.proofs.Buckets.{left-from, left-is}
 use Rattle.settle.proofs.Filling.{Filling, filling-start, filling-rate-fits, filling-rate-place, filling-burst-place, filling-step, filling-end, filling-kept}
 use Rattle.operations.specs.Contracts.{bucket, comesFirst, merged, NextOf}
 use Rattle.operations.specs.declared.gather.Next.{Next}
@@ -216,12 +216,7 @@ module _ {f g : List Bucket} {n i j : ℕ} {before now : List ℕ} (w : Merging 
     next-is :
         {here : Bucket} {rest : List Bucket} → merged (drop i f) (drop j g) ≡ here ∷ rest
         → (here ≡ nth (merged f g) (i + j)) × (drop (i + j + 1) (merged f g) ≡ rest)
-    next-is {here} {rest} e =
-        let inside : i + j < length (merged f g) = omega (arith, w .filled .counted) in
-        let known : nth (merged f g) (i + j) ∷ drop (i + j + 1) (merged f g) ≡ here ∷ rest =
-        sym (left-from (merged f g) (i + j) inside refl) ∙ w .left ∙ e
-        in
-        (cc (known), cc (known))
+    next-is e = left-is (merged f g) (i + j) (omega (arith, w .filled .counted)) (w .left ∙ e)
 
     module _ {r : Next} (x : NextOf (drop i f) (drop j g) r) where
       -- it is the first list's

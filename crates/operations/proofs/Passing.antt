@@ -88,7 +88,7 @@ module _
             rw (is ∙ ap (λ (n : ℕ). later latency (nth f n)) (sym place) ∙ sym (line-nth f first rate (rate * latency + m) latency (i - first + 1) (omega arith) (omega arith)))
             (at-inside raw (i - first + 1) nowhere (omega (arith, line-length f first rate (rate * latency + m) latency)))
 
-    -- they are within twice their range
+    -- none is too wide
     raw-wide : AllWide raw
     unfolding later
     raw-wide k inside =

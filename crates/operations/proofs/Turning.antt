@@ -21,7 +21,8 @@ use Rattle.meaning.proofs.curve.Reads.{burst-below}
 use Rattle.meaning.proofs.server.Excess.{Turn, tick, before-lowest, first-lowest, turn-excess, starting-excess}
 use Rattle.checks.specs.Contracts.{nth}
 use Rattle.checks.proofs.Buckets.{left-from}
-use Rattle.operations.specs.Contracts.{bucket, Tested, LeastOf, FirstSlow, tickOf}
+use Rattle.operations.specs.Contracts.{bucket, Tested, LeastOf, FirstSlow, CrossingAt, tickOf}
+use Rattle.operations.specs.declared.crossings.Crossing.{Crossing}
 
 -- What is read past the last bucket.
 abbrev pub nowhere : Bucket
@@ -85,7 +86,7 @@ module _ {f : List Bucket} {rate k here-rate burst : ℕ} (w : Seeking f rate k)
 
 pub ruleset seeking = (seeking-start, seeking-found, seeking-fits, seeking-less, seeking-step)
 
--- ---- The whole tick up to a crossing.
+-- ---- Where two neighbours cross.
 
 module _ {f : List Bucket} {k : ℕ} (w : Tested f) (h : (0 < k) × (k < length f)) where
   pub crossing-before : nth f k .rate < nth f (k - 1) .rate
@@ -103,14 +104,31 @@ module _ {f : List Bucket} {k : ℕ} (w : Tested f) (h : (0 < k) × (k < length 
     pub crossing-rate : rate ≤ rate-before
     crossing-rate = le-of-lt (rw (← before, ← is) at crossing-before)
 
-    pub crossing-some : 0 < rate-before - rate
-    crossing-some = omega (arith, rw (← before, ← is) at crossing-before)
+    -- so it is a time
+    pub crossing-is : CrossingAt f k (record { rise = burst - burst-before; fall = rate-before - rate })
+    crossing-is = record { rise-is = rw (← before, ← is); fall-is = rw (← before, ← is) }
 
-    pub crossing-tick : (burst - burst-before) / (rate-before - rate) ≡ tickOf f k
-    unfolding tickOf
-    crossing-tick = rw (← before, ← is)
+  module _ {c : Crossing} (x : CrossingAt f k c) where
+    -- that is not past every other,
+    pub crossing-some : 0 < c .fall
+    crossing-some = omega (arith, x .fall-is, crossing-before)
 
-pub ruleset crossing = (crossing-burst, crossing-rate, crossing-some, crossing-tick)
+    -- and both numbers are in the range of what they are taken from
+    pub crossing-rise-fits : c .rise < 2 ^ 40
+    crossing-rise-fits = omega (arith, x .rise-is, w .ranged (nth f k) (at-inside f k _ (h .1)) .burst-fits)
+
+    pub crossing-fall-fits : c .fall < 2 ^ 20
+    crossing-fall-fits = omega (arith, x .fall-is, w .ranged (nth f (k - 1)) (at-inside f (k - 1) _ (omega arith)) .rate-fits)
+
+pub ruleset crossing = (crossing-burst, crossing-rate, crossing-is)
+
+-- ---- The whole tick up to a crossing.
+
+pub tick-is : {f : List Bucket} {k : ℕ} {c : Crossing} → CrossingAt f k c → c .rise / c .fall ≡ tickOf f k
+unfolding tickOf
+tick-is x = rw (x .rise-is, x .fall-is)
+
+pub ruleset ticks = (crossing-some, tick-is)
 
 -- ---- Where the greatest of reads(s) - R·s is reached.
 

@@ -3,15 +3,18 @@
 use mathlib.Core.Path.{_≡_}
 use mathlib.Core.Bool.{Bool, true, false, cond}
 use mathlib.Core.List.{List, [], _∷_, map}
-use Prim.Native.Nat.{ℕ, _-_, _/_, _≤_, _<_}
+use Prim.Native.Nat.{ℕ, _+_, _-_, _/_, _≤_, _<_}
 use lib.Dec.{leb, ltb}
 use lib.ListN.{length, drop}
-use Rattle.meaning.specs.Curve.{Bucket, curveOf, bucketAt, NormalForm}
+use Rattle.meaning.specs.Curve.{Bucket, curveOf, bucketAt, NormalForm, added}
+use Rattle.meaning.specs.Computed.{mergedSum}
 use Rattle.meaning.specs.Refusal.{AllInRange, Verdict}
 use Rattle.meaning.specs.Server.{noServer, Excess, later, last, port}
 use Rattle.meaning.specs.ServerQuestions.{ServerInRange, portLines}
 use Rattle.checks.specs.Contracts.{nth}
 use Rattle.servers.specs.Contracts.{serverOf}
+use Rattle.operations.specs.declared.adding.Step.{Step}
+use Rattle.operations.specs.declared.crossings.Crossing.{Crossing}
 use Rattle.operations.specs.declared.gather.Next.{Next}
 use Rattle.operations.specs.declared.hops.Hop.{Hop}
 
@@ -51,6 +54,11 @@ pub record Opened (f : List ℕ) (rate latency code first m : ℕ) : Type 0 wher
   pub first-is : code ≡ 0 → FirstSlow (curveOf f) rate first
   pub excess-is : code ≡ 0 → Excess (curveOf f) rate m
 
+-- The crossing of the bucket numbered k, from 0, with the one before it, as rise over fall.
+pub record CrossingAt (f : List Bucket) (k : ℕ) (c : Crossing) : Type 0 where
+  pub rise-is : c .rise ≡ nth f k .burst - nth f (k - 1) .burst
+  pub fall-is : c .fall ≡ nth f (k - 1) .rate - nth f k .rate
+
 -- The whole tick up to the crossing of the bucket numbered k, from 0, with the one before it.
 unfoldable pub tickOf : List Bucket → ℕ → ℕ
 tickOf f k = (nth f k .burst - nth f (k - 1) .burst) / (nth f (k - 1) .rate - nth f k .rate)
@@ -76,6 +84,30 @@ pub record NextOf (f g : List Bucket) (next : Next) : Type 0 where
       next .first ≡ true → (1 ≤ length f) × (merged f g ≡ bucket (next .rate) (next .burst) ∷ merged (drop 1 f) g)
   pub second-list :
       next .first ≡ false → (1 ≤ length g) × (merged f g ≡ bucket (next .rate) (next .burst) ∷ merged f (drop 1 g))
+
+-- 1 where the one time is no later than the other, else 0.
+abbrev pub notAfter : ℕ → ℕ → ℕ
+notAfter time other = cond (leb time other) 1 0
+
+-- When a curve goes over from the bucket numbered i, from 0, to the next: at their crossing; where it is the last, after every time,
+-- as 1/0.
+pub record TurnAfter (f : List Bucket) (i : ℕ) (c : Crossing) : Type 0 where
+  pub next : i + 1 < length f → CrossingAt f (i + 1) c
+  pub last : length f ≤ i + 1 → (c .rise ≡ 1) × (c .fall ≡ 0)
+
+-- Two curves that no line refuses, and of each the bucket at hand, numbered i and j from 0; these are not both the last.
+pub record AtHand (f g : List Bucket) (i j : ℕ) : Type 0 where
+  pub first : Tested f
+  pub second : Tested g
+  pub first-inside : i < length f
+  pub second-inside : j < length g
+  pub not-last : i + j + 2 < length f + length g
+
+-- Where the two are merged to their sum: by how many buckets the walk goes on in each.
+pub record StepOf (f g : List Bucket) (i j : ℕ) (step : Step) : Type 0 where
+  pub inside : (i + step .first < length f) × (j + step .second < length g)
+  pub next :
+      mergedSum (drop i f) (drop j g) ≡ added (nth f i) (nth g j) ∷ mergedSum (drop (i + step .first) f) (drop (j + step .second) g)
 
 -- A hop that is refused, with its number: no count, no figures and no server.
 pub record NoHop (code : ℕ) (hop : Hop) : Type 0 where

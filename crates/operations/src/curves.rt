@@ -1,15 +1,17 @@
 // normalise, lower, sum and shape: each answers a curve, into a lent list or into a part of a larger table.
+use crate::adding;
 use crate::gather;
 use settle::Answer;
+use settle::deliver::deliver;
 use settle::settle;
-ghost use mathlib.Core.Path.{_≡_};
-ghost use Prim.Native.Nat.{_≤_, _%_};
-ghost use lib.ListN.{length};
-ghost use Rattle.meaning.specs.Curve.{buckets, flat, curveOf, pairs};
-ghost use Rattle.meaning.specs.Refusal.{_or_, Verdict, curveLines, AllInRange, Outcome, PartOutcome};
+ghost use Prim.Native.Nat.{_≤_};
+ghost use lib.ListN.{length, take};
+ghost use Rattle.meaning.specs.Curve.{flat, curveOf};
+ghost use Rattle.meaning.specs.Computed.{mergedSum};
+ghost use Rattle.meaning.specs.Refusal.{_or_, Verdict, curveLines, Outcome, PartOutcome};
 ghost use Rattle.meaning.specs.CurveQuestions.{linkLine, normalising, lowering, summing, shaping};
-ghost use Rattle.settle.specs.Contracts.{settling};
-ghost use Rattle.operations.specs.Contracts.{merged};
+ghost use Rattle.settle.specs.Contracts.{settling, delivering};
+ghost use Rattle.operations.specs.Contracts.{Tested, merged};
 
 // The refusal of two curves, or 0.
 fn two_curves(f: &[u64], g: &[u64]) -> u64
@@ -73,21 +75,17 @@ pub fn lower(f: &[u64], g: &[u64], out: &mut [u64]) -> Answer
     lower_in(f, g, out, 0, room)
 }
 
-// The normal form of the buckets of two lists, added each to each.
-fn paired(f: &[u64], g: &[u64], table: &mut [u64], at: usize, room: usize) -> Answer
-    requires { ⌜ AllInRange (buckets (now f)) ⌝ }
-    requires { ⌜ AllInRange (buckets (now g)) ⌝ }
-    requires { ⌜ length (buckets (now f)) ≤ 64 ⌝ }
-    requires { ⌜ length (buckets (now g)) ≤ 64 ⌝ }
-    requires { ⌜ length (now g) % 2 ≡ 0 ⌝ }
-    ensures { λ r. ⌜ PartOutcome (settling (flat (pairs (buckets (now (f .entry))) (buckets (now (g .entry)))))) at room (now (table .entry)) (now (table .exit)) (r .code) (r .count) ⌝ }
+// The sum of two curves that no line refuses, bucket by bucket. It is in normal form as it stands.
+fn added(f: &[u64], g: &[u64], table: &mut [u64], at: usize, room: usize) -> Answer
+    requires { ⌜ (Tested (curveOf (now f))) × (Tested (curveOf (now g))) ⌝ }
+    ensures { λ r. ⌜ PartOutcome (delivering (flat (take 65 (mergedSum (curveOf (now (f .entry))) (curveOf (now (g .entry))))))) at room (now (table .entry)) (now (table .exit)) (r .code) (r .count) ⌝ }
 {
-    let mut raw = [0u64; 8192];
-    let end = gather::add_pairs(f, g, &mut raw);
-    settle(&raw[..end], table, at, room)
+    let mut sum = [0u64; 130];
+    let end = adding::add(f, g, &mut sum);
+    deliver(&sum[..end], table, at, room)
 }
 
-// Two curves added: their buckets, each to each, in normal form.
+// Two curves added.
 pub fn sum_in(f: &[u64], g: &[u64], table: &mut [u64], at: usize, room: usize) -> Answer
     ensures { λ r. ⌜ PartOutcome (summing (now (f .entry)) (now (g .entry))) at room (now (table .entry)) (now (table .exit)) (r .code) (r .count) ⌝ }
 {
@@ -95,7 +93,7 @@ pub fn sum_in(f: &[u64], g: &[u64], table: &mut [u64], at: usize, room: usize) -
     if code != 0 {
         return Answer { code, count: 0 };
     }
-    paired(f, g, table, at, room)
+    added(f, g, table, at, room)
 }
 
 // The same into a whole list.

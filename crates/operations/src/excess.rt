@@ -1,4 +1,5 @@
 // M: by how much a curve is ahead of R bits a tick, at most.
+use crate::crossings::crossing_at;
 use crate::lowest::least_before;
 use crate::lowest::least_from;
 ghost use mathlib.Core.Path.{_≡_};
@@ -50,9 +51,8 @@ fn tick_of(curve: &[u64], k: usize) -> u64
     requires { ⌜ (0 < k) × (k < length (curveOf (now curve))) ⌝ }
     ensures { λ r. ⌜ r ≡ tickOf (curveOf (now (curve .entry))) k ⌝ }
 {
-    let before = checks::bucket_at(curve, k - 1);
-    let here = checks::bucket_at(curve, k);
-    (here.burst - before.burst) / (before.rate - here.rate)
+    let crossing = crossing_at(curve, k);
+    crossing.rise / crossing.fall
 }
 
 // M, where `first` is the first bucket of rate at most R. What is read less R·s rises up to its crossing with the bucket before it

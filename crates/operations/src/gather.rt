@@ -1,12 +1,11 @@
-// Raw buckets gathered in local memory, from the start of a list on: those of two curves merged, or all added one to one, or those
-// of a curve behind a server.
+// Raw buckets gathered in local memory, from the start of a list on: those of two curves merged, or those of a curve behind a
+// server.
 ghost use mathlib.Core.Path.{_≡_};
-ghost use mathlib.Core.List.{map};
-ghost use Prim.Native.Nat.{_+_, _≤_, _<_, _%_, _^_};
+ghost use Prim.Native.Nat.{_+_, _≤_, _<_, _^_};
 ghost use lib.ListN.{length, drop};
-ghost use Rattle.meaning.specs.Curve.{buckets, flat, curveOf, added, pairs};
-ghost use Rattle.meaning.specs.Refusal.{AllInRange, over};
-ghost use Rattle.operations.specs.Contracts.{Tested, bucket, merged, NextOf, lineAndLater};
+ghost use Rattle.meaning.specs.Curve.{flat, curveOf};
+ghost use Rattle.meaning.specs.Refusal.{over};
+ghost use Rattle.operations.specs.Contracts.{Tested, merged, NextOf, lineAndLater};
 
 // A bucket, and whether it is the first curve's.
 struct Next {
@@ -73,44 +72,6 @@ pub(crate) fn merge(f: &[u64], g: &[u64], out: &mut [u64]) -> usize
         }
     }
     2 * count
-}
-
-// The bucket (rate, burst) added to each bucket of a curve, written to the start of a list.
-fn add_row(rate: u64, burst: u64, curve: &[u64], out: &mut [u64])
-    requires { ⌜ rate < 2 ^ 20 ⌝ }
-    requires { ⌜ burst < 2 ^ 40 ⌝ }
-    requires { ⌜ AllInRange (buckets (now curve)) ⌝ }
-    requires { ⌜ length (flat (buckets (now curve))) ≤ length (now out) ⌝ }
-    ensures { λ _. ⌜ now (out .exit) ≡ over (flat (map (added (bucket rate burst)) (buckets (now (curve .entry))))) (now (out .entry)) ⌝ }
-{
-    let mut i = 0;
-    while i + 1 < curve.len() {
-        out[i] = rate + curve[i];
-        out[i + 1] = burst + curve[i + 1];
-        i += 2;
-    }
-}
-
-// The buckets of two curves, added each to each, written to the start of a list, a row for each bucket of the first. Answers the
-// place after them.
-pub(crate) fn add_pairs(f: &[u64], g: &[u64], out: &mut [u64]) -> usize
-    requires { ⌜ AllInRange (buckets (now f)) ⌝ }
-    requires { ⌜ AllInRange (buckets (now g)) ⌝ }
-    requires { ⌜ length (buckets (now f)) ≤ 64 ⌝ }
-    requires { ⌜ length (buckets (now g)) ≤ 64 ⌝ }
-    requires { ⌜ length (now g) % 2 ≡ 0 ⌝ }
-    requires { ⌜ 8192 ≤ length (now out) ⌝ }
-    ensures place { λ r. ⌜ r ≡ length (flat (pairs (buckets (now (f .entry))) (buckets (now (g .entry))))) ⌝ }
-    ensures written { λ _. ⌜ now (out .exit) ≡ over (flat (pairs (buckets (now (f .entry))) (buckets (now (g .entry))))) (now (out .entry)) ⌝ }
-{
-    let mut at = 0;
-    let mut i = 0;
-    while i + 1 < f.len() {
-        add_row(f[i], f[i + 1], g, &mut out[at..]);
-        at += g.len();
-        i += 2;
-    }
-    at
 }
 
 // The raw buckets of a curve behind a server, written to the start of a list: the line (rate, burst), then (r, b + r * latency) for

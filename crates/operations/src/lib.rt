@@ -2,7 +2,9 @@
 // refuses what it cannot take, with the number that wins. A curve goes to the start of a lent list, or of a part of a larger
 // table: the `room` numbers from `at`, as far as the table has them. What lies beyond it stays, and on a refusal everything
 // does.
+mod adding;
 mod bounds;
+mod crossings;
 pub mod curves;
 mod excess;
 mod gather;

@@ -8,11 +8,13 @@ use Prim.Native.Nat.{ℕ, _/_, _%_, _≤_, _<_}
 use native.Mathlib.Omega.{arith}
 use borrow.Author.Tests.{not-true, not-false}
 use lib.Dec.{lit≤}
-use lib.ListN.{length}
-use Rattle.meaning.specs.Curve.{buckets, listOf}
+use lib.ListN.{length, take, length-take}
+use lib.Seq.{take-all}
+use Rattle.meaning.specs.Curve.{Bucket, buckets, flat, listOf}
 use Rattle.meaning.specs.Refusal.{LIST, number, Clear, AllWithin, TooLarge, Uneven, over, Question, Outcome, part, PartOutcome}
-use Rattle.meaning.proofs.Lists.{buckets-use}
-use Rattle.meaning.proofs.outcome.Outcomes.{Single, Same, one-part-outcome, up-to-when, line-hit, three-parts, refuse-in-part, too-large, no-room, written-out}
+use Rattle.meaning.proofs.Lists.{buckets-use, buckets-flat, flat-length}
+use Rattle.meaning.proofs.Order.{le-or-lt}
+use Rattle.meaning.proofs.outcome.Outcomes.{Single, Same, one-part-outcome, up-to-when, line-hit, three-parts, refuse-in-part, too-large, no-room, written-out, asked-so-in-part}
 use Rattle.checks.specs.Contracts.{Tells}
 use Rattle.checks.proofs.Buckets.{buckets-count, flat-buckets}
 use Rattle.settle.specs.Contracts.{delivering, Placed}
@@ -123,3 +125,42 @@ pub one-delivering :
     → PartOutcome (delivering pairs) at room table after code count
     → PartOutcome (delivering pairs) at room table after′ code′ count′ → Same code count code′ count′ after after′
 one-delivering pairs v w = one-part-outcome (single-delivery pairs) v w
+
+-- ---- The answer to a question, handed over.
+
+-- the numbers of some buckets come out even
+flat-even : (f : List Bucket) → 1 ≤ length f → Uneven 2 (flat f) → ⊥
+flat-even f h (inl none) = omega (arith, flat-length f)
+flat-even f h (inr odd) = odd (omega (arith, flat-length f))
+
+-- A question that no operand refuses has one answer, of at least one bucket.
+module _
+    (ask : Question) (f : List Bucket) (clear : Clear (ask .operands)) (right : ask .Answer f)
+    (only : (g : List Bucket) → ask .Answer g → g ≡ f) (some : 1 ≤ length f)
+  where
+    module _ {at room : ℕ} {table after : List ℕ} {code count : ℕ} where
+      -- handed over, it is what was asked for
+      pub handed-over : PartOutcome (delivering (flat f)) at room table after code count → PartOutcome ask at room table after code count
+      unfolding delivering
+      handed-over =
+          asked-so-in-part (delivering (flat f)) ask (delivery-clear (flat f) (flat-even f some)) clear
+          (λ g e. rw (e, buckets-flat f) right) (λ g h. only g h ∙ sym (buckets-flat f))
+
+      -- the first 65 of more are too many as well
+      cut-short : 64 < length f → PartOutcome (delivering (flat (take 65 f))) at room table after code count → PartOutcome ask at room table after code count
+      cut-short many o =
+          let long : length (flat (take 65 f)) ≡ 130 = omega (arith, flat-length (take 65 f), length-take 65 f) in
+          let same =
+          one-delivering (flat (take 65 f)) o
+          (delivered-many (flat (take 65 f)) (λ none. omega arith) (λ odd. omega arith) (omega arith))
+          in
+          rw (same .code-same, same .figure-same, same .after-same) (untouched (too-large ask _ clear right (inl many)))
+
+      -- so it is enough to hand it over up to its 65th bucket
+      pub answered-by :
+          PartOutcome (delivering (flat (take 65 f))) at room table after code count → PartOutcome ask at room table after code count
+      answered-by o =
+          elim (le-or-lt (length f) 64) [
+            | inl few ↦ handed-over (rw (take-all 65 f (omega arith)) at o)
+            | inr many ↦ cut-short many o
+          ]

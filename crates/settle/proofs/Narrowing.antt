@@ -17,7 +17,7 @@ use Rattle.settle.specs.declared.ends.Ends as held-ends
 use Rattle.settle.specs.declared.ends.Left.{Left}
 
 -- a cross product fits
-pub product-fits : {a b : ℕ} → a < 2 ^ 41 → b < 2 ^ 21 → Fits w64 (a * b)
+pub product-fits : {a b : ℕ} → a < 2 ^ 41 → b < 2 ^ 20 → Fits w64 (a * b)
 product-fits ha hb = record { fits = lt-of-le-of-lt (mul-le-mul (le-of-lt ha) (le-of-lt hb)) (lit< tt) }
 
 -- ends by their numbers

@@ -46,7 +46,7 @@ pub record Parted (raw : List Bucket) (bound : ℕ) (front rest : List Bucket) :
   pub steeper : (k : Bucket) → k ∈ front → bound ≤ k .rate
   pub flatter : (k : Bucket) → k ∈ rest → k .rate < bound
 
-pub parted-start : {raw : List Bucket} → AllWide raw → Parted raw (2 ^ 21) [] (normal raw)
+pub parted-start : {raw : List Bucket} → AllWide raw → Parted raw (2 ^ 20) [] (normal raw)
 parted-start {raw} wide =
     record {
       whole = refl;
@@ -238,7 +238,7 @@ pub record Picked (raw out : List ℕ) (count bound : ℕ) : Type 0 where
   pub stands : take (2 * count) out ≡ flat front
 
 pub picked-start :
-    {raw out : List ℕ} → length raw < 2 ^ 64 → AllWide (buckets raw) → length out ≡ 128 → Picked raw out 0 (2 ^ 21)
+    {raw out : List ℕ} → length raw < 2 ^ 64 → AllWide (buckets raw) → length out ≡ 128 → Picked raw out 0 (2 ^ 20)
 unfolding flat
 picked-start short wide long =
     record {

@@ -1,7 +1,7 @@
 -- From raw buckets to the outcome in a part of a table: what the tests say one after the other, and the normal form that is
 -- chosen, handed over.
 -- Assumes nothing.
-use mathlib.Core.Path.{_≡_, refl, sym, _∙_, ap}
+use mathlib.Core.Path.{_≡_, refl}
 use mathlib.Core.Bool.{Bool, true, false, not}
 use mathlib.Core.Logic.{inl, inr, ⊎-elim}
 use mathlib.Core.List.{List}
@@ -16,13 +16,13 @@ use Rattle.meaning.specs.Refusal.{LIST, RANGE, number, _when_, Clear, Verdict, 
 use Rattle.meaning.proofs.Order.{not-apart}
 use Rattle.meaning.proofs.curve.Unique.{normal-of-unique}
 use Rattle.meaning.proofs.curve.Normal.{normal-is}
-use Rattle.meaning.proofs.outcome.Outcomes.{Single, Same, one-part-outcome, from-when, up-to-when, up-to-or, line-hit, line-miss, refused-first, refused-then, refuse-in-part, too-large, asked-so-in-part}
+use Rattle.meaning.proofs.outcome.Outcomes.{Single, Same, one-part-outcome, from-when, up-to-when, up-to-or, line-hit, line-miss, refused-first, refused-then, refuse-in-part, too-large}
 use Rattle.checks.specs.Contracts.{Tells}
 use Rattle.settle.specs.Contracts.{AllWide, settling, delivering, Chose}
 use Rattle.checks.proofs.Checks.{passed}
 use Rattle.checks.proofs.Ranges.{within-unless}
-use Rattle.settle.proofs.Delivering.{untouched, delivery-clear}
-use Rattle.meaning.proofs.Lists.{buckets-use, buckets-flat, flat-length}
+use Rattle.settle.proofs.Delivering.{untouched, handed-over}
+use Rattle.meaning.proofs.Lists.{buckets-use}
 
 -- ---- The operands.
 
@@ -42,12 +42,12 @@ module _ (raw : List ℕ) where
 
   module _
       (some : length raw ≡ 0 → ⊥) (even : length raw % 2 ≡ 1 → ⊥) {answer : Bool}
-      (t : Tells (AllWithin 2097152 2199023255552 (buckets raw)) answer)
+      (t : Tells (AllWithin 1048576 2199023255552 (buckets raw)) answer)
     where
       list-passed : Verdict (LIST when (Uneven 2 raw)) 0
       list-passed = line-miss (λ h. ⊎-elim some (λ odd. odd (omega (arith, even))) h)
 
-      -- one is not within twice its range
+      -- one is too wide
       pub refused-range : not answer ≡ true → Verdict (settling raw .operands) 6
       unfolding settling number
       refused-range n = refused-then list-passed (line-hit RANGE (t .no-means (not-true answer n)))
@@ -59,7 +59,7 @@ module _ (raw : List ℕ) where
 
 pub ruleset refusing = (refused-empty, refused-half, refused-range, refused-not)
 
--- There is a bucket, and each is within twice its range.
+-- There is a bucket, and none is too wide.
 pub record Accepted (raw : List ℕ) : Type 0 where
   pub some : 1 ≤ length (buckets raw)
   pub wide : AllWide (buckets raw)
@@ -102,36 +102,20 @@ module _ (raw : List ℕ) where
 
 -- ---- The outcome.
 
-module _ (raw : List ℕ) (a : Accepted raw) {out : List ℕ} {count : ℕ} (c : Chose (buckets raw) out count) (few : count ≤ 64) where
-  -- the buckets in memory are the normal form
-  chosen-are : buckets (take (2 * count) out) ≡ normal (buckets raw)
-  chosen-are = ap buckets (c .whole few) ∙ buckets-flat (normal (buckets raw))
-
-  -- they come out even
-  chosen-even : Uneven 2 (take (2 * count) out) → ⊥
-  chosen-even =
-      rw (c .whole few)
-      (⊎-elim
-      (λ none. omega (arith, flat-length (normal (buckets raw)), normal-is (buckets raw) (a .some) .form .some))
-      (λ odd. odd (omega (arith, flat-length (normal (buckets raw))))))
-
 module _ (raw : List ℕ) {at room : ℕ} {table : List ℕ} (a : Accepted raw) {out : List ℕ} {count : ℕ} (c : Chose (buckets raw) out count) where
   -- the normal form has too many buckets
   pub settled-many : 64 < count → PartOutcome (settling raw) at room table table 9 0
   settled-many h = untouched (too-large (settling raw) _ (a .clear) (right raw a) (inl (c .over-many h)))
 
-  module _ (few : count ≤ 64) where
-    -- what comes of handing the buckets over comes of settling
-    pub settled :
-        {after : List ℕ} {code count′ : ℕ}
-        → PartOutcome (delivering (take (2 * count) out)) at room table after code count′
-        → PartOutcome (settling raw) at room table after code count′
-    unfolding delivering
-    settled =
-        asked-so-in-part (delivering (take (2 * count) out)) (settling raw)
-        (delivery-clear (take (2 * count) out) (chosen-even raw a c few)) (a .clear)
-        (λ f e. rw (e, chosen-are raw a c few) (right raw a))
-        (λ f n. single raw f (normal (buckets raw)) n (right raw a) ∙ sym (chosen-are raw a c few))
+  -- what comes of handing the buckets over comes of settling
+  pub settled :
+      count ≤ 64 → {after : List ℕ} {code count′ : ℕ}
+      → PartOutcome (delivering (take (2 * count) out)) at room table after code count′
+      → PartOutcome (settling raw) at room table after code count′
+  settled few o =
+      handed-over (settling raw) (normal (buckets raw)) (a .clear) (right raw a)
+      (λ g n. single raw g (normal (buckets raw)) n (right raw a))
+      (normal-is (buckets raw) (a .some) .form .some) (rw (c .whole few) at o)
 
 pub ruleset settles = (accept, accepted-wide, settled-refused, settled-many, settled)
 

@@ -15,16 +15,15 @@ use Rattle.settle.specs.declared.candidates.Found.{Found}
 use Rattle.settle.specs.declared.ends.Ends as held-ends
 use Rattle.settle.specs.declared.ends.Left.{Left}
 
--- Raw buckets of a question, before normal form is taken: within twice the range of a curve's, as those of a sum or of a
--- curve behind a server are.
+-- Raw buckets of a question, before normal form is taken: a burst may be up to twice its range, as it is behind a server.
 abbrev pub Wide : Bucket → Type 0
-Wide = Within (2 ^ 21) (2 ^ 41)
+Wide = Within (2 ^ 20) (2 ^ 41)
 
 -- Every bucket of a list is.
 abbrev pub AllWide : List Bucket → Type 0
-AllWide = AllWithin (2 ^ 21) (2 ^ 41)
+AllWide = AllWithin (2 ^ 20) (2 ^ 41)
 
--- The normal form of some raw buckets, two numbers for each, of which there is at least one and each is within twice its range.
+-- The normal form of some raw buckets, two numbers for each, of which there is at least one and each is as wide as that.
 unfoldable pub settling : List ℕ → Question
 settling raw =
     record { operands = LIST when (Uneven 2 raw) or RANGE when (AllWide (buckets raw) → ⊥); Answer = NormalOf (buckets raw) }
@@ -42,9 +41,9 @@ endsOf e = record { low = e .low; lowOver = e .«low_over»; high = e .high; hig
 -- Ends whose cross products fit 64 bits.
 pub record EndsFit (e : Ends) : Type 0 where
   pub low-fits : e .low < 2 ^ 41
-  pub low-over-fits : e .lowOver < 2 ^ 21
+  pub low-over-fits : e .lowOver < 2 ^ 20
   pub high-fits : e .high < 2 ^ 41
-  pub high-over-fits : e .highOver < 2 ^ 21
+  pub high-over-fits : e .highOver < 2 ^ 20
 
 -- The search over a candidate c is at bucket j: both fit, as the ends do, between which some time is left.
 pub record Searching (c j : Bucket) (e : Ends) : Type 0 where

@@ -29,7 +29,7 @@ fn refusal(raw: &[u64]) -> u64
     if n % 2 == 1 {
         return limits::LIST;
     }
-    if !checks::within(raw, limits::RAW_RATE_END, limits::RAW_BURST_END) {
+    if !checks::within(raw, limits::RATE_END, limits::RAW_BURST_END) {
         return limits::RANGE;
     }
     0

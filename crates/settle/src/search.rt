@@ -19,7 +19,7 @@ pub(crate) fn choose(raw: &[u64], out: &mut [u64]) -> usize
 {
     let ordered = in_order(raw);
     let mut count = 0;
-    let mut bound = limits::RAW_RATE_END;
+    let mut bound = limits::RATE_END;
     let mut from = 0;
     'next: loop {
         let next = next_candidate(raw, from, bound, ordered);

@@ -71,13 +71,13 @@ unfolding bucketAt
 below-rises k j p q flat h = lt-of-mul-lt-mul-right q (omega (arith, mul-le-mul-right p flat))
 
 -- One step of the test: bucket k, the crossing x/y before it, the next bucket j and the buckets f after that.
-record Step (k : Bucket) (x y : ℕ) (j : Bucket) (f : List Bucket) : Type 0 where
-  falls : j .rate < k .rate
-  later : x * (k .rate - j .rate) < (j .burst - k .burst) * y
-  rest : crossingsRise j (j .burst - k .burst) (k .rate - j .rate) f ≡ true
+pub record Step (k : Bucket) (x y : ℕ) (j : Bucket) (f : List Bucket) : Type 0 where
+  pub falls : j .rate < k .rate
+  pub later : x * (k .rate - j .rate) < (j .burst - k .burst) * y
+  pub rest : crossingsRise j (j .burst - k .burst) (k .rate - j .rate) f ≡ true
 
 -- what passes the test makes the step
-step-of : (k : Bucket) (x y : ℕ) (j : Bucket) (f : List Bucket) → crossingsRise k x y (j ∷ f) ≡ true → Step k x y j f
+pub step-of : (k : Bucket) (x y : ℕ) (j : Bucket) (f : List Bucket) → crossingsRise k x y (j ∷ f) ≡ true → Step k x y j f
 unfolding crossingsRise
 step-of k x y j f h =
     let a = and-eq-true-iff _ _ .0 h in
@@ -85,18 +85,18 @@ step-of k x y j f h =
     record { falls = ltb-true _ _ (b .0); later = ltb-true _ _ (b .1); rest = a .1 }
 
 -- a step passes the test
-step-to : (k : Bucket) (x y : ℕ) (j : Bucket) (f : List Bucket) → Step k x y j f → crossingsRise k x y (j ∷ f) ≡ true
+pub step-to : (k : Bucket) (x y : ℕ) (j : Bucket) (f : List Bucket) → Step k x y j f → crossingsRise k x y (j ∷ f) ≡ true
 unfolding crossingsRise
 step-to k x y j f s = rw (lt-ltb _ _ (s .falls), lt-ltb _ _ (s .later)) (s .rest)
 
 module _ {k : Bucket} {x y : ℕ} {j : Bucket} {f : List Bucket} (s : Step k x y j f) where
   -- the two buckets of a step meet
-  step-meet : Meet k j (j .burst - k .burst) (k .rate - j .rate)
+  pub step-meet : Meet k j (j .burst - k .burst) (k .rate - j .rate)
   step-meet =
       meet k j (le-of-lt (s .falls)) (not-above (λ h. omega (arith, rw (sub-eq-zero-of-le (le-of-lt h)) at (s .later))))
 
   -- before the crossing the first bucket is below the second, and so below what the second is below
-  step-below :
+  pub step-below :
       (p q : ℕ) → p * (k .rate - j .rate) < (j .burst - k .burst) * q
       → ((l : Bucket) → l ∈ f → bucketAt j p q < bucketAt l p q) → (l : Bucket) → l ∈ (j ∷ f)
       → bucketAt k p q < bucketAt l p q
@@ -105,7 +105,7 @@ module _ {k : Bucket} {x y : ℕ} {j : Bucket} {f : List Bucket} (s : Step k x y
       cons-each next (λ l n. lt-trans next (rest l n))
 
 -- up to the crossing before it a bucket is below every later one
-rising-below :
+pub rising-below :
     (f : List Bucket) (k : Bucket) (x y p q : ℕ) → 0 < q → crossingsRise k x y f ≡ true → p * y ≤ x * q → (l : Bucket)
     → l ∈ f → bucketAt k p q < bucketAt l p q
 rising-below [] k x y p q hq h early l m = elim m [ ]

@@ -50,7 +50,7 @@ module _ {raw f : List Bucket} (h : 1 ≤ length raw) (c : Chosen raw f) where
 
 module _ {raw : List Bucket} where
   -- no bucket of a useful one's rate has a lower burst
-  useful-lowest : {k j : Bucket} → Useful raw k → j ∈ raw → k .rate ≡ j .rate → k .burst ≤ j .burst
+  pub useful-lowest : {k j : Bucket} → Useful raw k → j ∈ raw → k .rate ≡ j .rate → k .burst ≤ j .burst
   unfolding bucketAt
   useful-lowest {k} {j} u m e =
       not-above (λ l.

@@ -4,7 +4,7 @@
 use mathlib.Core.Path.{_≡_, refl, sym, _∙_, ap}
 use mathlib.Core.Logic.{inl, inr}
 use mathlib.Core.List.{List, [], _∷_, List·Memᴰ·head, List·Memᴰ·tail, List·Memᴰ·cases-cons, List·Memᴰ·eq-of-singleton}
-use Prim.Native.Nat.{ℕ, _≤_}
+use Prim.Native.Nat.{ℕ, _≤_, min}
 use native.Mathlib.Nat.{le-trans, le-of-eq, min-le-left, min-le-right, le-antisymm}
 use native.Mathlib.Omega.{arith}
 use lib.ListN.{length}
@@ -18,6 +18,16 @@ same-rate e = ap (λ (x : Bucket). x .rate) e
 -- and the same value
 pub same-bucket-at : {k j : Bucket} (p q : ℕ) → k ≡ j → bucketAt k p q ≡ bucketAt j p q
 same-bucket-at p q e = ap (λ (x : Bucket). bucketAt x p q) e
+
+-- one bucket's is the value of a list of its own
+pub value-one : (k : Bucket) (p q : ℕ) → valueAt (k ∷ []) p q ≡ bucketAt k p q
+unfolding valueAt
+value-one k p q = refl
+
+-- with one bucket more the value is the smaller of its and the others'
+pub value-more : (k j : Bucket) (f : List Bucket) (p q : ℕ) → valueAt (k ∷ j ∷ f) p q ≡ min (bucketAt k p q) (valueAt (j ∷ f) p q)
+unfolding valueAt
+value-more k j f p q = refl
 
 -- no bucket is below the value
 pub value-least : (f : List Bucket) (p q : ℕ) {k : Bucket} → k ∈ f → valueAt f p q ≤ bucketAt k p q
