@@ -129,8 +129,8 @@ duchrelin_answer duchrelin_lower(const uint64_t *f, size_t f_numbers, const uint
                                  uint64_t *out, size_t out_numbers);
 
 /* The two curves added: what both let through together, at every time. The sum turns where one of the two does, so it has fewer
- * buckets than the two together. It is LARGE where it has over 64, or where the two first rates add up to 2^20 or the two last
- * bursts to 2^40.
+ * buckets than the two together. It is LARGE where it has over 64, where the two first rates add up to 2^20 or more, or the two
+ * last bursts to 2^40 or more.
  * Example: {10,2, 3,20} and {4,0, 2,2} give count 3 and {14,2, 12,4, 5,22}. */
 duchrelin_answer duchrelin_sum(const uint64_t *f, size_t f_numbers, const uint64_t *g, size_t g_numbers,
                                uint64_t *out, size_t out_numbers);
