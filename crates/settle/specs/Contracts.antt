@@ -23,7 +23,7 @@ Wide = Within (2 ^ 20) (2 ^ 41)
 abbrev pub AllWide : List Bucket → Type 0
 AllWide = AllWithin (2 ^ 20) (2 ^ 41)
 
--- The normal form of some raw buckets, two numbers for each, of which there is at least one and each is as wide as that.
+-- The normal form of some raw buckets, two numbers for each, of which there is at least one and none is wider than that.
 unfoldable pub settling : List ℕ → Question
 settling raw =
     record { operands = LIST when (Uneven 2 raw) or RANGE when (AllWide (buckets raw) → ⊥); Answer = NormalOf (buckets raw) }
