@@ -18,7 +18,7 @@ enum { CURVE_NUMBERS = DUCHRELIN_CURVE_NUMBERS, INPUTS = 256 };
 
 /* What a call answers and leaves behind. */
 struct outcome {
-    uint64_t figures[5];
+    uint64_t figures[6];
     uint64_t list[CURVE_NUMBERS];
     uint8_t bytes[DUCHRELIN_TEXT_BYTES];
 };
@@ -67,27 +67,27 @@ static void shape(const struct library *l, const struct input *i, struct outcome
 
 static void join(const struct library *l, const struct input *i, struct outcome *o)
 {
-    keep_server(o, l->join(i->rate, i->latency, i->next_rate, i->next_latency));
+    keep_server(o, l->join(i->kind, i->rate, i->latency, i->next_kind, i->next_rate, i->next_latency));
 }
 
 static void behind(const struct library *l, const struct input *i, struct outcome *o)
 {
-    keep_answer(o, l->behind(i->f, i->f_numbers, i->rate, i->latency, o->list, CURVE_NUMBERS));
+    keep_answer(o, l->behind(i->f, i->f_numbers, i->kind, i->rate, i->latency, o->list, CURVE_NUMBERS));
 }
 
 static void backlog(const struct library *l, const struct input *i, struct outcome *o)
 {
-    keep_figure(o, l->backlog(i->f, i->f_numbers, i->rate, i->latency));
+    keep_figure(o, l->backlog(i->f, i->f_numbers, i->kind, i->rate, i->latency));
 }
 
 static void delay(const struct library *l, const struct input *i, struct outcome *o)
 {
-    keep_figure(o, l->delay(i->f, i->f_numbers, i->rate, i->latency));
+    keep_figure(o, l->delay(i->f, i->f_numbers, i->kind, i->rate, i->latency));
 }
 
 static void residual(const struct library *l, const struct input *i, struct outcome *o)
 {
-    keep_server(o, l->residual(i->rate, i->latency, i->f, i->f_numbers));
+    keep_server(o, l->residual(i->kind, i->rate, i->latency, i->f, i->f_numbers));
 }
 
 static void read_profile(const struct library *l, const struct input *i, struct outcome *o)
@@ -97,12 +97,12 @@ static void read_profile(const struct library *l, const struct input *i, struct 
 
 static void write_curve(const struct library *l, const struct input *i, struct outcome *o)
 {
-    keep_written(o, l->write_curve(i->f, i->f_numbers, o->bytes, sizeof o->bytes));
+    keep_written(o, l->write_curve(i->edition, i->f, i->f_numbers, o->bytes, sizeof o->bytes));
 }
 
 static void write_server(const struct library *l, const struct input *i, struct outcome *o)
 {
-    keep_written(o, l->write_server(i->rate, i->latency, o->bytes, sizeof o->bytes));
+    keep_written(o, l->write_server(i->edition, i->kind, i->rate, i->latency, o->bytes, sizeof o->bytes));
 }
 
 static void route(const struct library *l, const struct input *i, struct outcome *o)
@@ -149,15 +149,26 @@ static const struct timing_case cases[] = {
     { "shape", "", shape, make_curve_and_link, 8, true },
     { "shape", "", shape, make_curve_and_link, 64, true },
     { "join", "", join, make_servers, 0, false },
+    { "join", "a server and a pure delay", join, make_server_and_delay, 0, false },
+    { "join", "two pure delays", join, make_delays, 0, false },
     { "behind", "", behind, make_curve_and_server, 1, true },
     { "behind", "", behind, make_curve_and_server, 8, true },
     { "behind", "", behind, make_curve_and_server, 64, true },
+    { "behind", "a pure delay", behind, make_curve_and_delay, 1, true },
+    { "behind", "a pure delay", behind, make_curve_and_delay, 8, true },
+    { "behind", "a pure delay", behind, make_curve_and_delay, 64, true },
     { "backlog", "", backlog, make_curve_and_server, 1, false },
     { "backlog", "", backlog, make_curve_and_server, 8, false },
     { "backlog", "", backlog, make_curve_and_server, 64, false },
+    { "backlog", "a pure delay", backlog, make_curve_and_delay, 1, false },
+    { "backlog", "a pure delay", backlog, make_curve_and_delay, 8, false },
+    { "backlog", "a pure delay", backlog, make_curve_and_delay, 64, false },
     { "delay", "", delay, make_curve_and_server, 1, false },
     { "delay", "", delay, make_curve_and_server, 8, false },
     { "delay", "", delay, make_curve_and_server, 64, false },
+    { "delay", "a pure delay", delay, make_curve_and_delay, 1, false },
+    { "delay", "a pure delay", delay, make_curve_and_delay, 8, false },
+    { "delay", "a pure delay", delay, make_curve_and_delay, 64, false },
     { "residual", "", residual, make_cross_and_server, 1, false },
     { "residual", "", residual, make_cross_and_server, 8, false },
     { "residual", "", residual, make_cross_and_server, 64, false },
@@ -165,14 +176,17 @@ static const struct timing_case cases[] = {
     { "read", "a curve", read_profile, make_curve_file, 8, true },
     { "read", "a curve", read_profile, make_curve_file, 64, true },
     { "read", "a server", read_profile, make_server_file, 0, true },
+    { "read", "a pure delay", read_profile, make_delay_file, 0, true },
     { "write_curve", "", write_curve, make_one_curve, 1, false },
     { "write_curve", "", write_curve, make_one_curve, 8, false },
     { "write_curve", "", write_curve, make_one_curve, 64, false },
     { "write_server", "", write_server, make_servers, 0, false },
+    { "write_server", "a pure delay", write_server, make_delays, 0, false },
     { "route", "32 hops, all buckets stay", route, make_route_of_full_curves, 1, true },
     { "route", "32 hops, all buckets stay", route, make_route_of_full_curves, 8, true },
     { "route", "32 hops, all buckets stay", route, make_route_of_full_curves, 64, true },
     { "route", "32 hops, each cuts", route, make_route_of_cuts, 64, true },
+    { "route", "32 hops, every second a pure delay", route, make_route_of_both_kinds, 64, true },
 };
 
 enum { CASES = sizeof cases / sizeof cases[0] };

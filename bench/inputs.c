@@ -4,6 +4,10 @@
 #include <string.h>
 
 enum { MOST_BUCKETS = DUCHRELIN_MOST_BUCKETS, HOPS = DUCHRELIN_MOST_SERVERS };
+enum { RATE_LATENCY = DUCHRELIN_KIND_RATE_LATENCY, PURE_DELAY = DUCHRELIN_KIND_PURE_DELAY };
+
+/* The edition that has every kind. */
+enum { EDITION = 2 };
 
 /* Steps of rates and of crossings are drawn below these, so that two rates added, and bursts added or moved by any latency
  * drawn here, stay within their ranges. */
@@ -74,6 +78,7 @@ void make_one_curve(struct input *input, size_t buckets, uint64_t seed)
 {
     input->f_numbers = draw_curve(input->f, buckets, 0, &seed);
     input->tick = draw(&seed, (1 + buckets) * MOST_PAUSE / 2);
+    input->edition = EDITION;
 }
 
 /* A link that some buckets are steeper than, and a frame below the first burst of the others. Drawn until the answer is not LARGE. */
@@ -174,36 +179,61 @@ void make_crossings_dealt_out(struct input *input, size_t buckets, uint64_t seed
 void make_curve_and_server(struct input *input, size_t buckets, uint64_t seed)
 {
     make_one_curve(input, buckets, seed);
+    input->kind = RATE_LATENCY;
     input->rate = draw_rate_within(input, &seed);
     input->latency = draw(&seed, MOST_LATENCY);
+}
+
+void make_curve_and_delay(struct input *input, size_t buckets, uint64_t seed)
+{
+    make_one_curve(input, buckets, seed);
+    input->kind = PURE_DELAY;
+    input->latency = input->tick;
 }
 
 void make_servers(struct input *input, size_t buckets, uint64_t seed)
 {
     (void)buckets;
+    input->edition = EDITION;
+    input->kind = input->next_kind = RATE_LATENCY;
     input->rate = 1 + draw(&seed, MOST_LAST_RATE);
     input->latency = draw(&seed, MOST_LATENCY);
     input->next_rate = 1 + draw(&seed, MOST_LAST_RATE);
     input->next_latency = draw(&seed, MOST_LATENCY);
 }
 
+void make_server_and_delay(struct input *input, size_t buckets, uint64_t seed)
+{
+    make_servers(input, buckets, seed);
+    input->next_kind = PURE_DELAY;
+    input->next_rate = 0;
+}
+
+void make_delays(struct input *input, size_t buckets, uint64_t seed)
+{
+    make_server_and_delay(input, buckets, seed);
+    input->kind = PURE_DELAY;
+    input->rate = 0;
+}
+
 /* With a rate as large as this the quotient of any burst drawn here is a latency. */
 void make_cross_and_server(struct input *input, size_t buckets, uint64_t seed)
 {
     make_one_curve(input, buckets, seed);
+    input->kind = RATE_LATENCY;
     input->rate = (UINT64_C(1) << 20) - 1 - draw(&seed, MOST_FALL);
     input->latency = draw(&seed, MOST_LATENCY);
 }
 
 static void append_curve(struct input *input)
 {
-    input->byte_count += plain_write_curve(input->f, input->f_numbers, input->bytes + input->byte_count,
+    input->byte_count += plain_write_curve(EDITION, input->f, input->f_numbers, input->bytes + input->byte_count,
                                            sizeof input->bytes - input->byte_count).bytes;
 }
 
-static void append_server(struct input *input, uint64_t rate, uint64_t latency)
+static void append_server(struct input *input, uint64_t kind, uint64_t rate, uint64_t latency)
 {
-    input->byte_count += plain_write_server(rate, latency, input->bytes + input->byte_count,
+    input->byte_count += plain_write_server(EDITION, kind, rate, latency, input->bytes + input->byte_count,
                                             sizeof input->bytes - input->byte_count).bytes;
 }
 
@@ -218,7 +248,14 @@ void make_server_file(struct input *input, size_t buckets, uint64_t seed)
 {
     make_servers(input, buckets, seed);
     input->byte_count = 0;
-    append_server(input, input->rate, input->latency);
+    append_server(input, input->kind, input->rate, input->latency);
+}
+
+void make_delay_file(struct input *input, size_t buckets, uint64_t seed)
+{
+    make_delays(input, buckets, seed);
+    input->byte_count = 0;
+    append_server(input, input->kind, input->rate, input->latency);
 }
 
 /* Every bucket stays where no rate is cut and the latencies together do not reach the first crossing. */
@@ -229,15 +266,23 @@ void make_route_of_full_curves(struct input *input, size_t buckets, uint64_t see
     input->byte_count = 0;
     append_curve(input);
     for (int hop = 0; hop < HOPS; hop++)
-        append_server(input, first_rate(input) + 1 + draw(&seed, MOST_FALL), draw(&seed, MOST_HOP_LATENCY));
+        append_server(input, RATE_LATENCY, first_rate(input) + 1 + draw(&seed, MOST_FALL), draw(&seed, MOST_HOP_LATENCY));
 }
 
-void make_route_of_cuts(struct input *input, size_t buckets, uint64_t seed)
+/* Servers of falling rates, so that each cuts the curve; with both kinds every second hop is a pure delay instead. */
+static void make_route(struct input *input, size_t buckets, bool both_kinds, uint64_t seed)
 {
     make_one_curve(input, buckets, seed);
     input->byte_count = 0;
     append_curve(input);
     uint64_t spread = first_rate(input) - last_rate(input);
     for (uint64_t hop = 1; hop <= HOPS; hop++)
-        append_server(input, first_rate(input) - spread * hop / HOPS, draw(&seed, 8));
+        if (both_kinds && hop % 2 == 0)
+            append_server(input, PURE_DELAY, 0, draw(&seed, 8));
+        else
+            append_server(input, RATE_LATENCY, first_rate(input) - spread * hop / HOPS, draw(&seed, 8));
 }
+
+void make_route_of_cuts(struct input *input, size_t buckets, uint64_t seed) { make_route(input, buckets, false, seed); }
+
+void make_route_of_both_kinds(struct input *input, size_t buckets, uint64_t seed) { make_route(input, buckets, true, seed); }

@@ -44,28 +44,36 @@ static duchrelin_answer idle_lower(const uint64_t *f, size_t f_numbers, const ui
     return (duchrelin_answer){ 0 };
 }
 
-static duchrelin_server idle_join(uint64_t rate, uint64_t latency, uint64_t next_rate, uint64_t next_latency)
+static duchrelin_answer idle_shape(const uint64_t *curve, size_t curve_numbers, uint64_t rate, uint64_t frame,
+                                   uint64_t *out, size_t out_numbers)
 {
-    (void)rate, (void)latency, (void)next_rate, (void)next_latency;
-    return (duchrelin_server){ 0 };
-}
-
-static duchrelin_answer idle_behind(const uint64_t *curve, size_t curve_numbers, uint64_t rate, uint64_t latency,
-                                    uint64_t *out, size_t out_numbers)
-{
-    (void)curve, (void)curve_numbers, (void)rate, (void)latency, (void)out, (void)out_numbers;
+    (void)curve, (void)curve_numbers, (void)rate, (void)frame, (void)out, (void)out_numbers;
     return (duchrelin_answer){ 0 };
 }
 
-static duchrelin_figure idle_backlog(const uint64_t *curve, size_t curve_numbers, uint64_t rate, uint64_t latency)
+static duchrelin_server idle_join(uint64_t kind, uint64_t rate, uint64_t latency,
+                                  uint64_t next_kind, uint64_t next_rate, uint64_t next_latency)
 {
-    (void)curve, (void)curve_numbers, (void)rate, (void)latency;
+    (void)kind, (void)rate, (void)latency, (void)next_kind, (void)next_rate, (void)next_latency;
+    return (duchrelin_server){ 0 };
+}
+
+static duchrelin_answer idle_behind(const uint64_t *curve, size_t curve_numbers, uint64_t kind, uint64_t rate, uint64_t latency,
+                                    uint64_t *out, size_t out_numbers)
+{
+    (void)curve, (void)curve_numbers, (void)kind, (void)rate, (void)latency, (void)out, (void)out_numbers;
+    return (duchrelin_answer){ 0 };
+}
+
+static duchrelin_figure idle_backlog(const uint64_t *curve, size_t curve_numbers, uint64_t kind, uint64_t rate, uint64_t latency)
+{
+    (void)curve, (void)curve_numbers, (void)kind, (void)rate, (void)latency;
     return (duchrelin_figure){ 0 };
 }
 
-static duchrelin_server idle_residual(uint64_t rate, uint64_t latency, const uint64_t *cross, size_t cross_numbers)
+static duchrelin_server idle_residual(uint64_t kind, uint64_t rate, uint64_t latency, const uint64_t *cross, size_t cross_numbers)
 {
-    (void)rate, (void)latency, (void)cross, (void)cross_numbers;
+    (void)kind, (void)rate, (void)latency, (void)cross, (void)cross_numbers;
     return (duchrelin_server){ 0 };
 }
 
@@ -75,15 +83,17 @@ static duchrelin_profile idle_read(const uint8_t *file, size_t file_bytes, uint6
     return (duchrelin_profile){ 0 };
 }
 
-static duchrelin_written idle_write_curve(const uint64_t *curve, size_t curve_numbers, uint8_t *buffer, size_t buffer_bytes)
+static duchrelin_written idle_write_curve(uint64_t edition, const uint64_t *curve, size_t curve_numbers,
+                                          uint8_t *buffer, size_t buffer_bytes)
 {
-    (void)curve, (void)curve_numbers, (void)buffer, (void)buffer_bytes;
+    (void)edition, (void)curve, (void)curve_numbers, (void)buffer, (void)buffer_bytes;
     return (duchrelin_written){ 0 };
 }
 
-static duchrelin_written idle_write_server(uint64_t rate, uint64_t latency, uint8_t *buffer, size_t buffer_bytes)
+static duchrelin_written idle_write_server(uint64_t edition, uint64_t kind, uint64_t rate, uint64_t latency,
+                                           uint8_t *buffer, size_t buffer_bytes)
 {
-    (void)rate, (void)latency, (void)buffer, (void)buffer_bytes;
+    (void)edition, (void)kind, (void)rate, (void)latency, (void)buffer, (void)buffer_bytes;
     return (duchrelin_written){ 0 };
 }
 
@@ -94,6 +104,6 @@ static duchrelin_written idle_route(const uint8_t *input, size_t input_bytes, ui
 }
 
 const struct library idle_library = {
-    idle_normalise, idle_value, idle_burst, idle_lower, idle_lower, idle_behind, idle_join, idle_behind, idle_backlog, idle_backlog,
+    idle_normalise, idle_value, idle_burst, idle_lower, idle_lower, idle_shape, idle_join, idle_behind, idle_backlog, idle_backlog,
     idle_residual, idle_read, idle_write_curve, idle_write_server, idle_route,
 };

@@ -11,14 +11,14 @@ struct library {
     duchrelin_answer (*lower)(const uint64_t *, size_t, const uint64_t *, size_t, uint64_t *, size_t);
     duchrelin_answer (*sum)(const uint64_t *, size_t, const uint64_t *, size_t, uint64_t *, size_t);
     duchrelin_answer (*shape)(const uint64_t *, size_t, uint64_t, uint64_t, uint64_t *, size_t);
-    duchrelin_server (*join)(uint64_t, uint64_t, uint64_t, uint64_t);
-    duchrelin_answer (*behind)(const uint64_t *, size_t, uint64_t, uint64_t, uint64_t *, size_t);
-    duchrelin_figure (*backlog)(const uint64_t *, size_t, uint64_t, uint64_t);
-    duchrelin_figure (*delay)(const uint64_t *, size_t, uint64_t, uint64_t);
-    duchrelin_server (*residual)(uint64_t, uint64_t, const uint64_t *, size_t);
+    duchrelin_server (*join)(uint64_t, uint64_t, uint64_t, uint64_t, uint64_t, uint64_t);
+    duchrelin_answer (*behind)(const uint64_t *, size_t, uint64_t, uint64_t, uint64_t, uint64_t *, size_t);
+    duchrelin_figure (*backlog)(const uint64_t *, size_t, uint64_t, uint64_t, uint64_t);
+    duchrelin_figure (*delay)(const uint64_t *, size_t, uint64_t, uint64_t, uint64_t);
+    duchrelin_server (*residual)(uint64_t, uint64_t, uint64_t, const uint64_t *, size_t);
     duchrelin_profile (*read)(const uint8_t *, size_t, uint64_t *, size_t);
-    duchrelin_written (*write_curve)(const uint64_t *, size_t, uint8_t *, size_t);
-    duchrelin_written (*write_server)(uint64_t, uint64_t, uint8_t *, size_t);
+    duchrelin_written (*write_curve)(uint64_t, const uint64_t *, size_t, uint8_t *, size_t);
+    duchrelin_written (*write_server)(uint64_t, uint64_t, uint64_t, uint64_t, uint8_t *, size_t);
     duchrelin_written (*route)(const uint8_t *, size_t, uint8_t *, size_t);
 };
 

@@ -176,37 +176,40 @@ static uint64_t excess(const uint64_t *curve, size_t count, uint64_t rate)
     return before > after ? before : after;
 }
 
-/* The curve behind a server; the refusals of the operands are known not to hold. */
-static duchrelin_answer settle_behind(const uint64_t *curve, size_t curve_numbers, uint64_t rate, uint64_t latency,
+/* The curve behind a server; the refusals of the operands are known not to hold. A pure delay has no bucket of its own. */
+static duchrelin_answer settle_behind(const uint64_t *curve, size_t curve_numbers, uint64_t limit, uint64_t latency,
                                       uint64_t *out, size_t out_numbers)
 {
     uint64_t raw[CURVE_NUMBERS + 2];
     size_t count = 0;
     for (size_t i = 0; i < curve_numbers; i += 2)
-        if (curve[i] <= rate) {
+        if (curve[i] <= limit) {
             raw[2 * count] = curve[i];
             raw[2 * count + 1] = curve[i + 1] + curve[i] * latency;
             count++;
         }
-    raw[2 * count] = rate;
-    raw[2 * count + 1] = rate * latency + excess(curve, curve_numbers / 2, rate);
-    return settle(raw, count + 1, out, out_numbers);
+    if (limit != NO_LIMIT) {
+        raw[2 * count] = limit;
+        raw[2 * count + 1] = limit * latency + excess(curve, curve_numbers / 2, limit);
+        count++;
+    }
+    return settle(raw, count, out, out_numbers);
 }
 
-duchrelin_answer named_behind(const uint64_t *curve, size_t curve_numbers, uint64_t rate, uint64_t latency,
+duchrelin_answer named_behind(const uint64_t *curve, size_t curve_numbers, uint64_t kind, uint64_t rate, uint64_t latency,
                               uint64_t *out, size_t out_numbers)
 {
-    uint64_t code = port_refusal(curve, curve_numbers, rate, latency);
+    uint64_t code = port_refusal(curve, curve_numbers, kind, rate, latency);
     if (code != 0)
         return refused_answer(code);
-    return settle_behind(curve, curve_numbers, rate, latency, out, out_numbers);
+    return settle_behind(curve, curve_numbers, limit_of(kind, rate), latency, out, out_numbers);
 }
 
-static uint64_t delay_of(const uint64_t *curve, size_t count, uint64_t rate, uint64_t latency)
+static uint64_t delay_of(const uint64_t *curve, size_t count, uint64_t limit, uint64_t latency)
 {
     if (least_at(curve, count, 1) == 0)
         return 0;
-    return latency + quotient_rounded_up(excess(curve, count, rate), rate);
+    return limit == NO_LIMIT ? latency : latency + quotient_rounded_up(excess(curve, count, limit), limit);
 }
 
 /* A file, and the bit at which its next field begins. */
@@ -226,15 +229,26 @@ static uint64_t take_bits(struct bit_reader *reader, size_t width)
     return taken >> (8 * byte - end) & ((UINT64_C(1) << width) - 1);
 }
 
-static duchrelin_profile read_server(struct bit_reader reader)
+static duchrelin_profile read_rate_latency(struct bit_reader reader, uint64_t edition)
 {
     uint64_t rate = take_bits(&reader, RATE_BITS), latency = take_bits(&reader, RATE_BITS);
-    if (server_refusal(rate, latency) != 0)
-        return refused_profile(server_refusal(rate, latency));
-    return (duchrelin_profile){ .code = 0, .kind = DUCHRELIN_KIND_SERVER, .rate = rate, .latency = latency };
+    uint64_t code = server_refusal(DUCHRELIN_KIND_RATE_LATENCY, rate, latency);
+    if (code != 0)
+        return refused_profile(code);
+    return (duchrelin_profile){
+        .code = 0, .edition = edition, .kind = DUCHRELIN_KIND_RATE_LATENCY, .rate = rate, .latency = latency
+    };
 }
 
-static duchrelin_profile read_curve(struct bit_reader reader, size_t bits, uint64_t *out, size_t out_numbers)
+static duchrelin_profile read_pure_delay(struct bit_reader reader, size_t bits, uint64_t edition)
+{
+    uint64_t latency = take_bits(&reader, RATE_BITS);
+    if (take_bits(&reader, bits - reader.at) != 0)
+        return refused_profile(DUCHRELIN_PAD);
+    return (duchrelin_profile){ .code = 0, .edition = edition, .kind = DUCHRELIN_KIND_PURE_DELAY, .latency = latency };
+}
+
+static duchrelin_profile read_curve(struct bit_reader reader, size_t bits, uint64_t edition, uint64_t *out, size_t out_numbers)
 {
     uint64_t curve[CURVE_NUMBERS];
     size_t count = take_bits(&reader, 6) + 1;
@@ -248,7 +262,7 @@ static duchrelin_profile read_curve(struct bit_reader reader, size_t bits, uint6
     duchrelin_answer answer = placed(curve, count, out, out_numbers);
     if (answer.code != 0)
         return refused_profile(answer.code);
-    return (duchrelin_profile){ .code = 0, .kind = DUCHRELIN_KIND_CURVE, .count = count };
+    return (duchrelin_profile){ .code = 0, .edition = edition, .kind = DUCHRELIN_KIND_CURVE, .count = count };
 }
 
 duchrelin_profile named_read(const uint8_t *file, size_t file_bytes, uint64_t *out, size_t out_numbers)
@@ -258,8 +272,13 @@ duchrelin_profile named_read(const uint8_t *file, size_t file_bytes, uint64_t *o
         return refused_profile(code);
     if (file_bytes != bytes_due(file, file_bytes))
         return refused_profile(DUCHRELIN_LENGTH);
-    struct bit_reader reader = { .file = file, .at = 8 };
-    return kind_in(file) == DUCHRELIN_KIND_SERVER ? read_server(reader) : read_curve(reader, 8 * file_bytes, out, out_numbers);
+    struct bit_reader reader = { .file = file, .at = 0 };
+    uint64_t edition = take_bits(&reader, 4), kind = take_bits(&reader, 4);
+    if (kind == DUCHRELIN_KIND_RATE_LATENCY)
+        return read_rate_latency(reader, edition);
+    if (kind == DUCHRELIN_KIND_PURE_DELAY)
+        return read_pure_delay(reader, 8 * file_bytes, edition);
+    return read_curve(reader, 8 * file_bytes, edition, out, out_numbers);
 }
 
 /* The curve of the hop at hand, and the servers up to it joined. */
@@ -267,7 +286,7 @@ struct journey {
     uint64_t curve[CURVE_NUMBERS];
     size_t numbers;
     size_t hops;
-    uint64_t joined_rate, joined_latency;
+    uint64_t joined_limit, joined_latency;
 };
 
 /* Takes the next server: its refusal, or 0, its line of text, and the curve behind it. */
@@ -275,46 +294,48 @@ static uint64_t travel(struct journey *journey, const uint8_t *input, size_t byt
 {
     if (journey->hops == DUCHRELIN_MOST_SERVERS)
         return DUCHRELIN_COUNT;
-    uint64_t code = due_refusal(input, bytes, DUCHRELIN_KIND_SERVER);
+    uint64_t code = due_refusal(input, bytes, false);
     if (code != 0)
         return code;
-    uint64_t rate, latency, behind[CURVE_NUMBERS];
-    take_server(input, &rate, &latency);
-    code = port_refusal(journey->curve, journey->numbers, rate, latency);
+    duchrelin_server server = take_server(input);
+    if (server.code != 0)
+        return server.code;
+    code = port_refusal(journey->curve, journey->numbers, server.kind, server.rate, server.latency);
     if (code != 0)
         return code;
-    duchrelin_answer answer = settle_behind(journey->curve, journey->numbers, rate, latency, behind, CURVE_NUMBERS);
-    code = smaller_code(answer.code, join_refusal(journey->joined_latency, latency));
+    uint64_t limit = limit_of(server.kind, server.rate), behind[CURVE_NUMBERS];
+    duchrelin_answer answer = settle_behind(journey->curve, journey->numbers, limit, server.latency, behind, CURVE_NUMBERS);
+    code = smaller_code(answer.code, join_refusal(journey->joined_latency, server.latency));
     if (code != 0)
         return code;
     journey->hops++;
-    put_hop(text, journey->hops, burst_of(behind, 0), delay_of(journey->curve, journey->numbers / 2, rate, latency));
+    put_hop(text, journey->hops, burst_of(behind, 0), delay_of(journey->curve, journey->numbers / 2, limit, server.latency));
     journey->numbers = 2 * answer.count;
     memcpy(journey->curve, behind, journey->numbers * sizeof *behind);
-    journey->joined_rate = smaller(journey->joined_rate, rate);
-    journey->joined_latency += latency;
+    journey->joined_limit = smaller(journey->joined_limit, limit);
+    journey->joined_latency += server.latency;
     return 0;
 }
 
 static void put_whole_route(struct text *text, const uint64_t *first, size_t count, const struct journey *journey)
 {
     uint64_t behind[CURVE_NUMBERS];
-    settle_behind(first, 2 * count, journey->joined_rate, journey->joined_latency, behind, CURVE_NUMBERS);
-    put_route(text, burst_of(behind, 0), delay_of(first, count, journey->joined_rate, journey->joined_latency));
+    settle_behind(first, 2 * count, journey->joined_limit, journey->joined_latency, behind, CURVE_NUMBERS);
+    put_route(text, burst_of(behind, 0), delay_of(first, count, journey->joined_limit, journey->joined_latency));
 }
 
 static void report(struct text *text, const uint8_t *input, size_t bytes)
 {
     uint64_t first[CURVE_NUMBERS];
     size_t count = 0;
-    uint64_t code = due_refusal(input, bytes, DUCHRELIN_KIND_CURVE);
+    uint64_t code = due_refusal(input, bytes, true);
     if (code == 0)
         code = take_curve(input, first, &count);
     if (code != 0) {
         put_refusal(text, code, 1);
         return;
     }
-    struct journey journey = { .numbers = 2 * count, .hops = 0, .joined_rate = RATE_END, .joined_latency = 0 };
+    struct journey journey = { .numbers = 2 * count, .hops = 0, .joined_limit = NO_LIMIT, .joined_latency = 0 };
     memcpy(journey.curve, first, journey.numbers * sizeof *first);
     size_t at = curve_bytes(count);
     do {
@@ -323,7 +344,7 @@ static void report(struct text *text, const uint8_t *input, size_t bytes)
             put_refusal(text, code, journey.hops + 2);
             return;
         }
-        at += SERVER_BYTES;
+        at += server_bytes(kind_in(input + at));
     } while (at < bytes);
     put_whole_route(text, first, count, &journey);
 }

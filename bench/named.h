@@ -15,7 +15,7 @@ duchrelin_answer named_lower(const uint64_t *f, size_t f_numbers, const uint64_t
                              uint64_t *out, size_t out_numbers);
 duchrelin_answer named_shape(const uint64_t *curve, size_t curve_numbers, uint64_t rate, uint64_t frame,
                              uint64_t *out, size_t out_numbers);
-duchrelin_answer named_behind(const uint64_t *curve, size_t curve_numbers, uint64_t rate, uint64_t latency,
+duchrelin_answer named_behind(const uint64_t *curve, size_t curve_numbers, uint64_t kind, uint64_t rate, uint64_t latency,
                               uint64_t *out, size_t out_numbers);
 duchrelin_profile named_read(const uint8_t *file, size_t file_bytes, uint64_t *out, size_t out_numbers);
 duchrelin_written named_route(const uint8_t *input, size_t input_bytes, uint8_t *text, size_t text_bytes);

@@ -311,18 +311,22 @@ static bool leads(const uint64_t *curve, size_t k, uint64_t latency)
 }
 
 /* The burst of the first bucket behind. */
-static uint64_t backlog_of(const uint64_t *curve, size_t count, uint64_t rate, uint64_t latency)
+static uint64_t backlog_of(const uint64_t *curve, size_t count, uint64_t limit, uint64_t latency)
 {
-    size_t k = first_within(curve, count, rate);
-    return leads(curve, k, latency) ? rate * latency + excess_by(curve, count, rate, k) : value_at(curve, count, latency);
+    if (limit == NO_LIMIT)
+        return value_at(curve, count, latency);
+    size_t k = first_within(curve, count, limit);
+    return leads(curve, k, latency) ? limit * latency + excess_by(curve, count, limit, k) : value_at(curve, count, latency);
 }
 
 /* A curve that carries nothing waits for nothing. */
 static bool carries_nothing(const uint64_t *curve, size_t count) { return count == 1 && curve[0] == 0 && curve[1] == 0; }
 
-static uint64_t delay_of(const uint64_t *curve, size_t count, uint64_t rate, uint64_t latency)
+static uint64_t delay_of(const uint64_t *curve, size_t count, uint64_t limit, uint64_t latency)
 {
-    return carries_nothing(curve, count) ? 0 : latency + quotient_rounded_up(excess_of(curve, count, rate), rate);
+    if (carries_nothing(curve, count))
+        return 0;
+    return limit == NO_LIMIT ? latency : latency + quotient_rounded_up(excess_of(curve, count, limit), limit);
 }
 
 /* The last bucket always stays behind a server, and its burst is the greatest. */
@@ -349,33 +353,41 @@ static void write_moved(const uint64_t *curve, size_t from, size_t count, uint64
     }
 }
 
-duchrelin_server plain_join(uint64_t rate, uint64_t latency, uint64_t next_rate, uint64_t next_latency)
+duchrelin_server plain_join(uint64_t kind, uint64_t rate, uint64_t latency,
+                            uint64_t next_kind, uint64_t next_rate, uint64_t next_latency)
 {
-    uint64_t code = smaller_code(server_refusal(rate, latency), server_refusal(next_rate, next_latency));
+    uint64_t code = smaller_code(server_refusal(kind, rate, latency), server_refusal(next_kind, next_rate, next_latency));
     if (code == 0)
         code = join_refusal(latency, next_latency);
     if (code != 0)
         return refused_server(code);
-    return (duchrelin_server){ .code = 0, .rate = smaller(rate, next_rate), .latency = latency + next_latency };
+    return server_of(smaller(limit_of(kind, rate), limit_of(next_kind, next_rate)), latency + next_latency);
 }
 
-duchrelin_answer plain_behind(const uint64_t *curve, size_t curve_numbers, uint64_t rate, uint64_t latency,
+/* The buckets that are lowest at the end of the latency or later, moved by it. */
+static duchrelin_answer behind_latency(const uint64_t *curve, size_t count, uint64_t latency, uint64_t *out, size_t out_numbers)
+{
+    size_t from = lowest_at(curve, count, latency);
+    if (out_numbers < 2 * (count - from))
+        return refused_answer(DUCHRELIN_ROOM);
+    write_moved(curve, from, count, latency, out);
+    return (duchrelin_answer){ .code = 0, .count = count - from };
+}
+
+duchrelin_answer plain_behind(const uint64_t *curve, size_t curve_numbers, uint64_t kind, uint64_t rate, uint64_t latency,
                               uint64_t *out, size_t out_numbers)
 {
-    uint64_t code = port_refusal(curve, curve_numbers, rate, latency);
+    uint64_t code = port_refusal(curve, curve_numbers, kind, rate, latency);
     if (code != 0)
         return refused_answer(code);
     if (too_large_behind(curve, curve_numbers, latency))
         return refused_answer(DUCHRELIN_LARGE);
     size_t count = curve_numbers / 2;
+    if (kind == DUCHRELIN_KIND_PURE_DELAY)
+        return behind_latency(curve, count, latency, out, out_numbers);
     size_t k = first_within(curve, count, rate);
-    if (!leads(curve, k, latency)) {
-        size_t from = lowest_at(curve, count, latency);
-        if (out_numbers < 2 * (count - from))
-            return refused_answer(DUCHRELIN_ROOM);
-        write_moved(curve, from, count, latency, out);
-        return (duchrelin_answer){ .code = 0, .count = count - from };
-    }
+    if (!leads(curve, k, latency))
+        return behind_latency(curve, count, latency, out, out_numbers);
     uint64_t excess = excess_by(curve, count, rate, k);
     size_t flatter = rate_of(curve, k) == rate ? k + 1 : k;
     size_t from = first_uncovered(curve, count, rate, excess, flatter);
@@ -387,25 +399,27 @@ duchrelin_answer plain_behind(const uint64_t *curve, size_t curve_numbers, uint6
     return (duchrelin_answer){ .code = 0, .count = 1 + count - from };
 }
 
-duchrelin_figure plain_backlog(const uint64_t *curve, size_t curve_numbers, uint64_t rate, uint64_t latency)
+duchrelin_figure plain_backlog(const uint64_t *curve, size_t curve_numbers, uint64_t kind, uint64_t rate, uint64_t latency)
 {
-    uint64_t code = port_refusal(curve, curve_numbers, rate, latency);
+    uint64_t code = port_refusal(curve, curve_numbers, kind, rate, latency);
     if (code != 0)
         return refused_figure(code);
-    return (duchrelin_figure){ .code = 0, .figure = backlog_of(curve, curve_numbers / 2, rate, latency) };
+    return (duchrelin_figure){ .code = 0, .figure = backlog_of(curve, curve_numbers / 2, limit_of(kind, rate), latency) };
 }
 
-duchrelin_figure plain_delay(const uint64_t *curve, size_t curve_numbers, uint64_t rate, uint64_t latency)
+duchrelin_figure plain_delay(const uint64_t *curve, size_t curve_numbers, uint64_t kind, uint64_t rate, uint64_t latency)
 {
-    uint64_t code = port_refusal(curve, curve_numbers, rate, latency);
+    uint64_t code = port_refusal(curve, curve_numbers, kind, rate, latency);
     if (code != 0)
         return refused_figure(code);
-    return (duchrelin_figure){ .code = 0, .figure = delay_of(curve, curve_numbers / 2, rate, latency) };
+    return (duchrelin_figure){ .code = 0, .figure = delay_of(curve, curve_numbers / 2, limit_of(kind, rate), latency) };
 }
 
-duchrelin_server plain_residual(uint64_t rate, uint64_t latency, const uint64_t *cross, size_t cross_numbers)
+/* A pure delay has no rate of which some could be left. */
+duchrelin_server plain_residual(uint64_t kind, uint64_t rate, uint64_t latency, const uint64_t *cross, size_t cross_numbers)
 {
-    uint64_t code = smaller_code(server_refusal(rate, latency), curve_refusal(cross, cross_numbers));
+    uint64_t code = kind == DUCHRELIN_KIND_PURE_DELAY ? DUCHRELIN_RANGE : server_refusal(kind, rate, latency);
+    code = smaller_code(code, curve_refusal(cross, cross_numbers));
     if (code != 0)
         return refused_server(code);
     if (last_rate(cross, cross_numbers) >= rate)
@@ -413,7 +427,7 @@ duchrelin_server plain_residual(uint64_t rate, uint64_t latency, const uint64_t 
     uint64_t later = latency + quotient_rounded_up(last_burst(cross, cross_numbers), rate);
     if (later >= RATE_END)
         return refused_server(DUCHRELIN_LARGE);
-    return (duchrelin_server){ .code = 0, .rate = rate - last_rate(cross, cross_numbers), .latency = later };
+    return server_of(rate - last_rate(cross, cross_numbers), later);
 }
 
 /*
@@ -422,11 +436,12 @@ duchrelin_server plain_residual(uint64_t rate, uint64_t latency, const uint64_t 
 
 static duchrelin_profile read_server(const uint8_t *file)
 {
-    uint64_t rate, latency;
-    take_server(file, &rate, &latency);
-    if (server_refusal(rate, latency) != 0)
-        return refused_profile(server_refusal(rate, latency));
-    return (duchrelin_profile){ .code = 0, .kind = DUCHRELIN_KIND_SERVER, .rate = rate, .latency = latency };
+    duchrelin_server server = take_server(file);
+    if (server.code != 0)
+        return refused_profile(server.code);
+    return (duchrelin_profile){
+        .code = 0, .edition = edition_in(file), .kind = server.kind, .rate = server.rate, .latency = server.latency
+    };
 }
 
 static duchrelin_profile read_curve(const uint8_t *file, uint64_t *out, size_t out_numbers)
@@ -439,7 +454,7 @@ static duchrelin_profile read_curve(const uint8_t *file, uint64_t *out, size_t o
     duchrelin_answer answer = placed(curve, count, out, out_numbers);
     if (answer.code != 0)
         return refused_profile(answer.code);
-    return (duchrelin_profile){ .code = 0, .kind = DUCHRELIN_KIND_CURVE, .count = count };
+    return (duchrelin_profile){ .code = 0, .edition = edition_in(file), .kind = DUCHRELIN_KIND_CURVE, .count = count };
 }
 
 duchrelin_profile plain_read(const uint8_t *file, size_t file_bytes, uint64_t *out, size_t out_numbers)
@@ -449,91 +464,108 @@ duchrelin_profile plain_read(const uint8_t *file, size_t file_bytes, uint64_t *o
         return refused_profile(code);
     if (file_bytes != bytes_due(file, file_bytes))
         return refused_profile(DUCHRELIN_LENGTH);
-    return kind_in(file) == DUCHRELIN_KIND_SERVER ? read_server(file) : read_curve(file, out, out_numbers);
+    return kind_in(file) == DUCHRELIN_KIND_CURVE ? read_curve(file, out, out_numbers) : read_server(file);
 }
 
-duchrelin_written plain_write_curve(const uint64_t *curve, size_t curve_numbers, uint8_t *buffer, size_t buffer_bytes)
+duchrelin_written plain_write_curve(uint64_t edition, const uint64_t *curve, size_t curve_numbers,
+                                    uint8_t *buffer, size_t buffer_bytes)
 {
-    uint64_t code = curve_refusal(curve, curve_numbers);
+    uint64_t code = smaller_code(edition_refusal(edition, DUCHRELIN_KIND_CURVE), curve_refusal(curve, curve_numbers));
     if (code != 0)
         return refused_writing(code);
     size_t count = curve_numbers / 2;
     if (buffer_bytes < curve_bytes(count))
         return refused_writing(DUCHRELIN_ROOM);
-    buffer[0] = header_of(DUCHRELIN_KIND_CURVE);
+    buffer[0] = header_of(edition, DUCHRELIN_KIND_CURVE);
     put_buckets(curve, count, buffer);
     return (duchrelin_written){ .code = 0, .bytes = curve_bytes(count) };
 }
 
-duchrelin_written plain_write_server(uint64_t rate, uint64_t latency, uint8_t *buffer, size_t buffer_bytes)
+static void put_after_header(uint64_t numbers, uint8_t *file, size_t bytes)
 {
-    uint64_t code = server_refusal(rate, latency);
+    for (size_t i = 1; i < bytes; i++)
+        file[i] = (uint8_t)(numbers >> 8 * (bytes - 1 - i));
+}
+
+duchrelin_written plain_write_server(uint64_t edition, uint64_t kind, uint64_t rate, uint64_t latency,
+                                     uint8_t *buffer, size_t buffer_bytes)
+{
+    uint64_t code = smaller_code(edition_refusal(edition, kind), server_refusal(kind, rate, latency));
     if (code != 0)
         return refused_writing(code);
-    if (buffer_bytes < SERVER_BYTES)
+    if (buffer_bytes < server_bytes(kind))
         return refused_writing(DUCHRELIN_ROOM);
-    uint64_t numbers = rate << 20 | latency;
-    buffer[0] = header_of(DUCHRELIN_KIND_SERVER);
-    for (int i = 1; i < SERVER_BYTES; i++)
-        buffer[i] = (uint8_t)(numbers >> (40 - 8 * i));
-    return (duchrelin_written){ .code = 0, .bytes = SERVER_BYTES };
+    buffer[0] = header_of(edition, kind);
+    if (kind == DUCHRELIN_KIND_PURE_DELAY)
+        put_after_header(latency << 4, buffer, PURE_DELAY_BYTES);
+    else
+        put_after_header(rate << 20 | latency, buffer, RATE_LATENCY_BYTES);
+    return (duchrelin_written){ .code = 0, .bytes = server_bytes(kind) };
 }
 
 /*
  * The route.
  */
 
-/* The refusal of a server in its place, and its numbers. The latencies of those before it have moved the curve's last bucket. */
-static uint64_t hop_refusal(const uint8_t *input, size_t bytes, const uint64_t *first, size_t count, uint64_t latency_before,
-                            uint64_t *rate, uint64_t *latency)
+/* The server in its place, or its refusal. The latencies of those before it have moved the curve's last bucket. */
+static duchrelin_server next_server(const uint8_t *input, size_t bytes, const uint64_t *first, size_t count,
+                                    uint64_t latency_before)
 {
-    uint64_t code = due_refusal(input, bytes, DUCHRELIN_KIND_SERVER);
+    uint64_t code = due_refusal(input, bytes, false);
     if (code != 0)
-        return code;
-    take_server(input, rate, latency);
-    code = server_refusal(*rate, *latency);
-    if (code != 0)
-        return code;
-    if (last_rate(first, 2 * count) > *rate)
-        return DUCHRELIN_UNBOUNDED;
-    if (too_large_behind(first, 2 * count, latency_before + *latency))
-        return DUCHRELIN_LARGE;
-    return join_refusal(latency_before, *latency);
+        return refused_server(code);
+    duchrelin_server server = take_server(input);
+    if (server.code != 0)
+        return server;
+    if (last_rate(first, 2 * count) > limit_of(server.kind, server.rate))
+        return refused_server(DUCHRELIN_UNBOUNDED);
+    if (too_large_behind(first, 2 * count, latency_before + server.latency))
+        return refused_server(DUCHRELIN_LARGE);
+    code = join_refusal(latency_before, server.latency);
+    return code != 0 ? refused_server(code) : server;
+}
+
+/* The delay of a server behind others, with the limit of all joined, itself too, and the latency of the others. What is divided by
+ * its rate is the backlog that it would have without a latency of its own; a pure delay has nothing to divide by. */
+static uint64_t hop_delay(duchrelin_server server, const uint64_t *first, size_t count, uint64_t joined_limit,
+                          uint64_t latency_before)
+{
+    if (carries_nothing(first, count))
+        return 0;
+    if (server.kind == DUCHRELIN_KIND_PURE_DELAY)
+        return server.latency;
+    return server.latency + quotient_rounded_up(backlog_of(first, count, joined_limit, latency_before), server.rate);
 }
 
 /* No curve goes from hop to hop: the curve behind some servers is the first one behind their joined server, so every figure is
- * one of the first curve. The backlog of a hop is that of the server joined up to it. What its delay divides by its rate is the
- * backlog that the hop would have without a latency of its own. */
+ * one of the first curve. The backlog of a hop is that of the server joined up to it. */
 static void report_hops(struct text *text, const uint8_t *input, size_t bytes, const uint64_t *first, size_t count)
 {
-    uint64_t joined_rate = RATE_END, joined_latency = 0;
+    uint64_t joined_limit = NO_LIMIT, joined_latency = 0;
     size_t hop = 0;
     do {
-        uint64_t rate, latency;
-        uint64_t code = hop < DUCHRELIN_MOST_SERVERS
-                            ? hop_refusal(input, bytes, first, count, joined_latency, &rate, &latency)
-                            : DUCHRELIN_COUNT;
-        if (code != 0) {
-            put_refusal(text, code, hop + 2);
+        duchrelin_server server = hop < DUCHRELIN_MOST_SERVERS ? next_server(input, bytes, first, count, joined_latency)
+                                                               : refused_server(DUCHRELIN_COUNT);
+        if (server.code != 0) {
+            put_refusal(text, server.code, hop + 2);
             return;
         }
         hop++;
-        joined_rate = smaller(joined_rate, rate);
-        uint64_t before_latency = backlog_of(first, count, joined_rate, joined_latency);
-        uint64_t delay = carries_nothing(first, count) ? 0 : latency + quotient_rounded_up(before_latency, rate);
-        joined_latency += latency;
-        put_hop(text, hop, backlog_of(first, count, joined_rate, joined_latency), delay);
-        input += SERVER_BYTES;
-        bytes -= SERVER_BYTES;
+        joined_limit = smaller(joined_limit, limit_of(server.kind, server.rate));
+        uint64_t delay = hop_delay(server, first, count, joined_limit, joined_latency);
+        joined_latency += server.latency;
+        put_hop(text, hop, backlog_of(first, count, joined_limit, joined_latency), delay);
+        input += server_bytes(server.kind);
+        bytes -= server_bytes(server.kind);
     } while (bytes > 0);
-    put_route(text, backlog_of(first, count, joined_rate, joined_latency), delay_of(first, count, joined_rate, joined_latency));
+    put_route(text, backlog_of(first, count, joined_limit, joined_latency), delay_of(first, count, joined_limit, joined_latency));
 }
 
 static void report(struct text *text, const uint8_t *input, size_t bytes)
 {
     uint64_t curve[CURVE_NUMBERS];
     size_t count = 0;
-    uint64_t code = due_refusal(input, bytes, DUCHRELIN_KIND_CURVE);
+    uint64_t code = due_refusal(input, bytes, true);
     if (code == 0)
         code = take_curve(input, curve, &count);
     if (code != 0)

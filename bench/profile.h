@@ -10,7 +10,7 @@
  * odd count from nine.
  */
 
-enum { EDITION = 1, SERVER_BYTES = 6, BUCKETS_AT = 1, PAIR_BYTES = 15 };
+enum { RATE_LATENCY_BYTES = 6, PURE_DELAY_BYTES = 4, BUCKETS_AT = 1, PAIR_BYTES = 15 };
 
 static inline size_t curve_bytes(size_t count) { return (60 * count + 21) / 8; }
 
@@ -80,31 +80,57 @@ static inline uint64_t padding_of(const uint8_t *file, size_t count)
     return file[curve_bytes(count) - 1] & (count % 2 != 0 ? 0x3f : 0x03);
 }
 
+static inline uint64_t edition_in(const uint8_t *file) { return file[0] >> 4; }
 static inline uint64_t kind_in(const uint8_t *file) { return file[0] & 15; }
+static inline uint8_t header_of(uint64_t edition, uint64_t kind) { return (uint8_t)(edition << 4 | kind); }
+
+/* Of an edition in which a profile is to be written: edition 1 has no pure delays. */
+static inline uint64_t edition_refusal(uint64_t edition, uint64_t kind)
+{
+    if (edition == 2)
+        return 0;
+    return edition == 1 && kind != DUCHRELIN_KIND_PURE_DELAY ? 0 : DUCHRELIN_HEADER;
+}
 
 static inline uint64_t header_refusal(const uint8_t *file, size_t bytes)
 {
-    if (bytes == 0 || file[0] >> 4 != EDITION)
+    if (bytes == 0 || kind_in(file) < DUCHRELIN_KIND_CURVE || kind_in(file) > DUCHRELIN_KIND_PURE_DELAY)
         return DUCHRELIN_HEADER;
-    return kind_in(file) == DUCHRELIN_KIND_CURVE || kind_in(file) == DUCHRELIN_KIND_SERVER ? 0 : DUCHRELIN_HEADER;
+    return edition_refusal(edition_in(file), kind_in(file));
+}
+
+static inline size_t server_bytes(uint64_t kind)
+{
+    return kind == DUCHRELIN_KIND_PURE_DELAY ? PURE_DELAY_BYTES : RATE_LATENCY_BYTES;
 }
 
 /* How many bytes the header at the start of some bytes asks for. A curve's count is in its second byte; without that, more
  * bytes than there are. */
 static inline size_t bytes_due(const uint8_t *file, size_t bytes)
 {
-    if (kind_in(file) == DUCHRELIN_KIND_SERVER)
-        return SERVER_BYTES;
+    if (kind_in(file) != DUCHRELIN_KIND_CURVE)
+        return server_bytes(kind_in(file));
     return bytes < 2 ? curve_bytes(1) : curve_bytes(count_in(file));
 }
 
-static inline void take_server(const uint8_t *file, uint64_t *rate, uint64_t *latency)
+static inline uint64_t bytes_after_header(const uint8_t *file, size_t bytes)
 {
     uint64_t numbers = 0;
-    for (int i = 1; i < SERVER_BYTES; i++)
+    for (size_t i = 1; i < bytes; i++)
         numbers = numbers << 8 | file[i];
-    *rate = numbers >> 20;
-    *latency = numbers & (RATE_END - 1);
+    return numbers;
+}
+
+/* The server in a file of the right length, or its refusal. Four bits follow the latency of a pure delay. */
+static inline duchrelin_server take_server(const uint8_t *file)
+{
+    if (kind_in(file) == DUCHRELIN_KIND_PURE_DELAY) {
+        uint64_t numbers = bytes_after_header(file, PURE_DELAY_BYTES);
+        return (numbers & 15) != 0 ? refused_server(DUCHRELIN_PAD) : server_of(NO_LIMIT, numbers >> 4);
+    }
+    uint64_t numbers = bytes_after_header(file, RATE_LATENCY_BYTES);
+    uint64_t rate = numbers >> 20;
+    return rate == 0 ? refused_server(DUCHRELIN_RANGE) : server_of(rate, numbers & (RATE_END - 1));
 }
 
 /* A curve file of the right length, its buckets taken to local memory. No field of a curve can be out of range. */
@@ -117,18 +143,16 @@ static inline uint64_t take_curve(const uint8_t *file, uint64_t *curve, size_t *
     return curve_refusal(curve, 2 * *count);
 }
 
-/* The lines of the header and the length, where a profile of one kind is due. What follows the profile is no concern of it. */
-static inline uint64_t due_refusal(const uint8_t *input, size_t bytes, uint64_t kind)
+/* The lines of the header and the length, where a curve is due, or a server. What follows the profile is no concern of it. */
+static inline uint64_t due_refusal(const uint8_t *input, size_t bytes, bool curve)
 {
     uint64_t code = header_refusal(input, bytes);
     if (code != 0)
         return code;
-    if (kind_in(input) != kind)
+    if ((kind_in(input) == DUCHRELIN_KIND_CURVE) != curve)
         return DUCHRELIN_HEADER;
     return bytes < bytes_due(input, bytes) ? DUCHRELIN_LENGTH : 0;
 }
-
-static inline uint8_t header_of(unsigned kind) { return (uint8_t)(EDITION << 4 | kind); }
 
 /*
  * The text of a route.

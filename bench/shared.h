@@ -94,9 +94,14 @@ static inline uint64_t curves_refusal(const uint64_t *f, size_t f_numbers, const
 /* A rate that is not 0, as servers and links have one, and with it a latency or a longest frame. */
 static inline uint64_t rate_refusal(uint64_t rate) { return rate == 0 || rate >= RATE_END ? DUCHRELIN_RANGE : 0; }
 
-static inline uint64_t server_refusal(uint64_t rate, uint64_t latency)
+/* A pure delay has no rate, and 0 is handed for it. */
+static inline uint64_t server_refusal(uint64_t kind, uint64_t rate, uint64_t latency)
 {
-    return latency >= RATE_END ? DUCHRELIN_RANGE : rate_refusal(rate);
+    if (latency >= RATE_END)
+        return DUCHRELIN_RANGE;
+    if (kind == DUCHRELIN_KIND_PURE_DELAY)
+        return rate != 0 ? DUCHRELIN_RANGE : 0;
+    return kind == DUCHRELIN_KIND_RATE_LATENCY ? rate_refusal(rate) : DUCHRELIN_RANGE;
 }
 
 static inline uint64_t link_refusal(uint64_t rate, uint64_t frame)
@@ -107,13 +112,18 @@ static inline uint64_t link_refusal(uint64_t rate, uint64_t frame)
 static inline uint64_t last_rate(const uint64_t *curve, size_t numbers) { return curve[numbers - 2]; }
 static inline uint64_t last_burst(const uint64_t *curve, size_t numbers) { return curve[numbers - 1]; }
 
+/* Inside, a server is a limit and a latency: the limit is its rate, and that of a pure delay is above every rate. */
+#define NO_LIMIT RATE_END
+
+static inline uint64_t limit_of(uint64_t kind, uint64_t rate) { return kind == DUCHRELIN_KIND_PURE_DELAY ? NO_LIMIT : rate; }
+
 /* Of a curve and a server that carries all of it in the end. */
-static inline uint64_t port_refusal(const uint64_t *curve, size_t numbers, uint64_t rate, uint64_t latency)
+static inline uint64_t port_refusal(const uint64_t *curve, size_t numbers, uint64_t kind, uint64_t rate, uint64_t latency)
 {
-    uint64_t code = smaller_code(curve_refusal(curve, numbers), server_refusal(rate, latency));
+    uint64_t code = smaller_code(curve_refusal(curve, numbers), server_refusal(kind, rate, latency));
     if (code != 0)
         return code;
-    return last_rate(curve, numbers) > rate ? DUCHRELIN_UNBOUNDED : 0;
+    return last_rate(curve, numbers) > limit_of(kind, rate) ? DUCHRELIN_UNBOUNDED : 0;
 }
 
 static inline uint64_t join_refusal(uint64_t latency, uint64_t next_latency)
@@ -129,9 +139,19 @@ static inline uint64_t smaller(uint64_t a, uint64_t b) { return a < b ? a : b; }
 
 static inline duchrelin_answer refused_answer(uint64_t code) { return (duchrelin_answer){ .code = code, .count = 0 }; }
 static inline duchrelin_figure refused_figure(uint64_t code) { return (duchrelin_figure){ .code = code, .figure = 0 }; }
-static inline duchrelin_server refused_server(uint64_t code) { return (duchrelin_server){ .code = code, .rate = 0, .latency = 0 }; }
+static inline duchrelin_server refused_server(uint64_t code)
+{
+    return (duchrelin_server){ .code = code, .kind = DUCHRELIN_KIND_RATE_LATENCY, .rate = 0, .latency = 0 };
+}
 static inline duchrelin_written refused_writing(uint64_t code) { return (duchrelin_written){ .code = code, .bytes = 0 }; }
 static inline duchrelin_profile refused_profile(uint64_t code) { return (duchrelin_profile){ .code = code }; }
+
+static inline duchrelin_server server_of(uint64_t limit, uint64_t latency)
+{
+    if (limit == NO_LIMIT)
+        return (duchrelin_server){ .code = 0, .kind = DUCHRELIN_KIND_PURE_DELAY, .rate = 0, .latency = latency };
+    return (duchrelin_server){ .code = 0, .kind = DUCHRELIN_KIND_RATE_LATENCY, .rate = limit, .latency = latency };
+}
 
 /* Hands over a curve whose numbers are known to be in range. */
 static inline duchrelin_answer placed(const uint64_t *buckets, size_t count, uint64_t *out, size_t out_numbers)

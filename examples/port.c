@@ -4,6 +4,8 @@
 
 #include "duchrelin_words.h"
 
+enum { PORT = DUCHRELIN_KIND_RATE_LATENCY };
+
 static void show_code(const char *what, uint64_t code)
 {
     printf("%s: %s. %s %s\n", what, duchrelin_code_name(code), duchrelin_code_meaning(code), duchrelin_code_advice(code));
@@ -52,17 +54,17 @@ int main(void)
     show_curve("and no more than (8,4)", duchrelin_lower(flow, numbers, limit, 2, limited, DUCHRELIN_CURVE_NUMBERS), limited);
 
     show_figure("comes at once", duchrelin_burst(flow, numbers), "bits");
-    show_figure("waits at the first port, (6,1)", duchrelin_backlog(flow, numbers, 6, 1), "bits");
-    show_figure("delay there", duchrelin_delay(flow, numbers, 6, 1), "ticks");
-    duchrelin_answer behind = duchrelin_behind(flow, numbers, 6, 1, onward, DUCHRELIN_CURVE_NUMBERS);
+    show_figure("waits at the first port, (6,1)", duchrelin_backlog(flow, numbers, PORT, 6, 1), "bits");
+    show_figure("delay there", duchrelin_delay(flow, numbers, PORT, 6, 1), "ticks");
+    duchrelin_answer behind = duchrelin_behind(flow, numbers, PORT, 6, 1, onward, DUCHRELIN_CURVE_NUMBERS);
     show_curve("behind it", behind, onward);
     show_figure("comes at once from there", duchrelin_burst(onward, DUCHRELIN_BUCKET_NUMBERS * behind.count), "bits");
 
-    duchrelin_server both = duchrelin_join(6, 1, 5, 2);
+    duchrelin_server both = duchrelin_join(PORT, 6, 1, PORT, 5, 2);
     show_server("with the next port, (5,2)", both);
-    show_figure("delay through both", duchrelin_delay(flow, numbers, both.rate, both.latency), "ticks");
+    show_figure("delay through both", duchrelin_delay(flow, numbers, both.kind, both.rate, both.latency), "ticks");
 
-    show_server("the first port beside the flow", duchrelin_residual(6, 1, flow, numbers));
-    show_figure("delay at a port of rate 2", duchrelin_delay(flow, numbers, 2, 0), "ticks");
+    show_server("the first port beside the flow", duchrelin_residual(PORT, 6, 1, flow, numbers));
+    show_figure("delay at a port of rate 2", duchrelin_delay(flow, numbers, PORT, 2, 0), "ticks");
     return 0;
 }

@@ -2,7 +2,8 @@
  * The codes and kinds of duchrelin.h in words, so that every screen says the same. Each function takes any number and answers a
  * text that is never NULL and stays as long as the program runs. Nothing here needs the library: the header is all there is.
  *
- *     duchrelin_answer answer = duchrelin_behind(curve, numbers, rate, latency, out, DUCHRELIN_CURVE_NUMBERS);
+ *     duchrelin_answer answer = duchrelin_behind(curve, numbers, DUCHRELIN_KIND_RATE_LATENCY, rate, latency, out,
+ *                                                DUCHRELIN_CURVE_NUMBERS);
  *     if (answer.code != DUCHRELIN_ANSWERED)
  *         fprintf(stderr, "%s: %s %s\n", duchrelin_code_name(answer.code), duchrelin_code_meaning(answer.code),
  *                 duchrelin_code_advice(answer.code));
@@ -49,7 +50,7 @@ static inline const char *duchrelin_code_meaning(uint64_t code)
         return "Answered: the figures are exact.";
     case DUCHRELIN_HEADER:
         return "The file is empty or does not begin as a profile does; or, in a route, it is a port where traffic is due, or the "
-               "reverse.";
+               "reverse; or it was to be written in an edition that does not have its kind.";
     case DUCHRELIN_LENGTH:
         return "The file is shorter or longer than what it says it holds.";
     case DUCHRELIN_PAD:
@@ -59,7 +60,7 @@ static inline const char *duchrelin_code_meaning(uint64_t code)
     case DUCHRELIN_COUNT:
         return "There are more than 64 buckets, or more than 32 ports in a route.";
     case DUCHRELIN_RANGE:
-        return "A number is too large, or a port's or a link's rate is 0.";
+        return "A number is too large, a port's or a link's rate is 0, or a rate is asked of a device that only delays.";
     case DUCHRELIN_FORM:
         return "The buckets are out of order, or there is one among them that never limits the traffic.";
     case DUCHRELIN_UNBOUNDED:
@@ -80,8 +81,8 @@ static inline const char *duchrelin_code_advice(uint64_t code)
     case DUCHRELIN_ANSWERED:
         return "Write the figures down.";
     case DUCHRELIN_HEADER:
-        return "Ask whoever uploaded the file for a profile of edition 1. In a route, name the traffic first and the ports after "
-               "it.";
+        return "Ask whoever uploaded the file for a profile of edition 1 or 2; a device that only delays needs edition 2. In a route, "
+               "name the traffic first and the ports after it.";
     case DUCHRELIN_LENGTH:
         return "Part of it was lost or something was added on the way: fetch it again, or ask whoever uploaded it to send it again.";
     case DUCHRELIN_PAD:
@@ -92,7 +93,8 @@ static inline const char *duchrelin_code_advice(uint64_t code)
         return "Leave buckets out, which keeps the figures on the safe side, or plan the route in two parts.";
     case DUCHRELIN_RANGE:
         return "Put the number right: rates and latencies go up to 1048575, bursts, frames and ticks up to 1099511627775, and the rate "
-               "of a port or a link starts at 1.";
+               "of a port or a link starts at 1. A device that only delays has no rate, and what other traffic leaves of it cannot "
+               "be asked.";
     case DUCHRELIN_FORM:
         return "Ask whoever uploaded the profile to write it again with our writer. A program passes the list through "
                "duchrelin_normalise first.";
@@ -108,12 +110,13 @@ static inline const char *duchrelin_code_advice(uint64_t code)
     }
 }
 
-/* What a profile of this kind describes: "traffic" for a curve, "port" for a server. */
+/* What a profile of this kind describes: "traffic" for a curve, "port" for a server with a rate, "delay" for one that only delays. */
 static inline const char *duchrelin_kind_name(uint64_t kind)
 {
     switch (kind) {
     case DUCHRELIN_KIND_CURVE: return "traffic";
-    case DUCHRELIN_KIND_SERVER: return "port";
+    case DUCHRELIN_KIND_RATE_LATENCY: return "port";
+    case DUCHRELIN_KIND_PURE_DELAY: return "delay";
     default: return "no kind";
     }
 }

@@ -7,7 +7,7 @@
 #include "screen.h"
 #include "text.h"
 
-enum group { TRAFFIC, PORTS, REFUSED_FILES, NOT_READ, GROUPS };
+enum group { TRAFFIC, PORTS, DELAYS, REFUSED_FILES, NOT_READ, GROUPS };
 
 static enum group group_of(const struct entry *e)
 {
@@ -15,7 +15,9 @@ static enum group group_of(const struct entry *e)
         return NOT_READ;
     if (e->code != DUCHRELIN_ANSWERED)
         return REFUSED_FILES;
-    return e->profile.kind == DUCHRELIN_KIND_CURVE ? TRAFFIC : PORTS;
+    if (e->profile.kind == DUCHRELIN_KIND_CURVE)
+        return TRAFFIC;
+    return only_delays(e->profile.server) ? DELAYS : PORTS;
 }
 
 static int status_of(const struct entry *e)
@@ -39,15 +41,15 @@ static void list_group(const struct entry *entries, size_t count, enum group gro
 
 static void list_entries(const struct store *s, const struct entry *entries, size_t count)
 {
-    static const char *const headings[GROUPS] = {"TRAFFIC", "PORTS", "REFUSED", "NOT TO BE READ"};
+    static const char *const headings[GROUPS] = {"TRAFFIC", "PORTS", "DELAYS", "REFUSED", "NOT TO BE READ"};
     size_t in[GROUPS] = {0}, unknown = 0;
     for (size_t i = 0; i < count; i++) {
         in[group_of(&entries[i])]++;
         unknown += entries[i].origin.standing != KNOWN;
     }
     printf("The store %s: %zu %s\n", s->path, count, plural(count, "profile", "profiles"));
-    printf("  traffic %zu, ports %zu, refused %zu, not to be read %zu; author not known %zu\n", in[TRAFFIC], in[PORTS],
-           in[REFUSED_FILES], in[NOT_READ], unknown);
+    printf("  traffic %zu, ports %zu, delays %zu, refused %zu, not to be read %zu\n  author not known %zu\n", in[TRAFFIC], in[PORTS],
+           in[DELAYS], in[REFUSED_FILES], in[NOT_READ], unknown);
     for (enum group g = TRAFFIC; g < GROUPS; g++)
         list_group(entries, count, g, headings[g]);
 }

@@ -4,7 +4,8 @@
 
 #include "store.h"
 
-/* All profiles: traffic, then ports, then what is refused. REFUSED where a file is, FAILED where one cannot be read. */
+/* All profiles: traffic, then ports, then devices that only delay, then what is refused. REFUSED where a file is, FAILED where one
+ * cannot be read. */
 int list_store(const struct store *s);
 
 /* Some profiles by their names, in full. */

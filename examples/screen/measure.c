@@ -27,9 +27,12 @@ static uint64_t slow_down(const struct curve *c, struct server s, uint64_t from)
 }
 
 /* A tick for which one tick less than the delay is too short. It is the one at which a port without latency would hold the most; and
- * where such a port would never hold any, tick 1, since then the delay is the latency alone. */
+ * where such a port would never hold any, tick 1, since then the delay is the latency alone. A device that only delays does so by as
+ * much at every tick; from tick 0 on the delay ends where the service steps up. */
 static uint64_t latest(const struct curve *c, struct server s)
 {
+    if (only_delays(s))
+        return 0;
     struct server without = s;
     without.latency = 0;
     uint64_t tick = slow_down(c, without, 0), come = 0, served = 0;

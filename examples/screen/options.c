@@ -58,7 +58,8 @@ void say_help(void)
            "      --                what follows is no option\n"
            "\n"
            "A profile NAME is the file NAME.profile of the store; uploads.txt there says\n"
-           "what each is and who uploaded it, authors.txt which authors are known.\n"
+           "what each is and who uploaded it, authors.txt which authors are known. A device\n"
+           "that only delays, such as a long fibre, is named on the way as a port is.\n"
            "\n"
            "Exit status: 0 answered; 1 something was refused; 2 a name is not there, a file\n"
            "or folder cannot be read or written, or the command line makes no sense.\n");

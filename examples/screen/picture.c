@@ -41,7 +41,7 @@ static void say_lines(struct picture *p, const struct route *r, size_t hop)
     ADD(p->served, "served: ");
     add_server(p->served, sizeof p->served, d->server);
     if (hop == 0 && r->hop_count > 1)
-        ADD(p->served, ", all ports as one");
+        ADD(p->served, ", all %s as one", route_delays(r) > 0 ? "devices" : "ports");
     say_unit(p, axis_unit(d->bits));
     if (axis_unit(d->ticks).letter != axis_unit(d->bits).letter)
         say_unit(p, axis_unit(d->ticks));
@@ -58,6 +58,16 @@ static void say_come(char to[CAPTION_BYTES], uint64_t bits, uint64_t tick)
         add_text(to, CAPTION_BYTES, "%" PRIu64 " may have come by tick %" PRIu64, bits, tick);
 }
 
+/* The delay where it only delays, which is the same at every tick; but traffic without a bit has none. */
+static void say_only_delay(struct picture *p)
+{
+    const struct measure *m = &p->plot.measure;
+    if (m->delay > 0)
+        ADD(p->delay, "any bit may take so long, and none takes longer");
+    else
+        ADD(p->delay, "%s", p->plot.server.latency > 0 ? "no bit ever comes" : "every bit leaves as it comes");
+}
+
 static void say_measures(struct picture *p)
 {
     const struct measure *m = &p->plot.measure;
@@ -69,7 +79,9 @@ static void say_measures(struct picture *p)
         ADD(p->backlog, ", and %" PRIu64 " %s served by then", m->full_served, plural(m->full_served, "is", "are"));
     }
     ADD(p->delay, "delay %" PRIu64 " %s: ", m->delay, plural(m->delay, "tick", "ticks"));
-    if (m->delay == 0) {
+    if (only_delays(p->plot.server)) {
+        say_only_delay(p);
+    } else if (m->delay == 0) {
         ADD(p->delay, "what has come by a tick is served by it");
     } else {
         say_come(p->delay, m->late_come, m->late);

@@ -22,7 +22,7 @@ static void choose_axes(struct plot *p)
     p->curve_end = p->ticks.end < LAST_TICK ? p->ticks.end : LAST_TICK;
     uint64_t bits = 0;
     ask_come(&p->curve, p->curve_end, &bits);
-    if (bits == 0)
+    if (bits == 0 && !only_delays(p->server))
         ask_served(p->server, p->ticks.end, &bits);
     p->bits = axis_for(bits + bits / 20 + 1);
 }
@@ -73,15 +73,27 @@ static void put_line(struct plot *p, enum mark line)
     }
 }
 
+/* What a device that only delays serves: nothing up to its latency, and there straight up to the top. */
+static void put_step(struct plot *p)
+{
+    int step = column_of(p, p->server.latency);
+    for (int column = 0; column < step; column++)
+        put_mark(p, column, 0, SERVED_MARK);
+    for (int row = 0; row <= ROWS; row++)
+        put_mark(p, step, row, SERVED_MARK);
+}
+
 static void put_measures(struct plot *p)
 {
     const struct measure *m = &p->measure;
     if (m->delay > 0)
         for (int c = column_of(p, m->late); c <= column_of(p, m->late + m->delay); c++)
             put_mark(p, c, row_of(p, (double)m->late_come), DELAY_MARK);
+    int low = row_of(p, (double)m->full_served), high = row_of(p, (double)m->full_come);
     if (m->backlog > 0)
-        for (int r = row_of(p, (double)m->full_served); r <= row_of(p, (double)m->full_come); r++)
-            put_mark(p, column_of(p, m->full), r, BACKLOG_MARK);
+        for (int r = low; r <= high; r++)
+            if (!only_delays(p->server) || r == low || (high - r) % 2 == 0) /* it lies on the step, and their marks take turns */
+                put_mark(p, column_of(p, m->full), r, BACKLOG_MARK);
 }
 
 /* How many places of the board a text would cover that are not blank, one more place on each side counted. */
@@ -177,7 +189,10 @@ uint64_t plot(const struct curve *c, struct server s, struct plot *to)
         return code;
     choose_axes(to);
     memset(to->board, BLANK, sizeof to->board);
-    put_line(to, SERVED_MARK);
+    if (only_delays(s))
+        put_step(to);
+    else
+        put_line(to, SERVED_MARK);
     put_line(to, CURVE_MARK);
     put_measures(to);
     place_labels(to);

@@ -1,7 +1,8 @@
 /*
  * The plot of a port: what has come and what is served by each tick, the backlog between them as a vertical and the delay as a
- * horizontal. It is worked out on a board of characters; as text the board itself is shown, as SVG the same lines are drawn finer
- * and the labels stand where the board had room for them.
+ * horizontal. What a device that only delays serves is a step, from 0 straight up to the top. The plot is worked out on a board of
+ * characters; as text the board itself is shown, as SVG the same lines are drawn finer and the labels stand where the board had room
+ * for them.
  */
 #ifndef PLOT_H
 #define PLOT_H

@@ -48,14 +48,19 @@ static void about_link(const struct route *r, char to[ABOUT_BYTES])
              DUCHRELIN_FRAME_END - 1);
 }
 
+/* What a profile of this kind holds. */
+static const char *held(uint64_t kind)
+{
+    return kind == DUCHRELIN_KIND_CURVE ? "traffic curve" : kind == DUCHRELIN_KIND_PURE_DELAY ? "device that only delays" : "port";
+}
+
 /* What the refusal comes from, as far as the screen can tell. */
 static void about_refusal(const struct route *r, char to[ABOUT_BYTES])
 {
     const struct entry *e = route_entry(r, r->place);
     *to = '\0';
     if (r->asked == READING && e->code == DUCHRELIN_ANSWERED)
-        add_text(to, ABOUT_BYTES, "It holds a %s, and %s is due there.",
-                 e->profile.kind == DUCHRELIN_KIND_CURVE ? "traffic curve" : "port", r->place == 1 ? "traffic" : "a port");
+        add_text(to, ABOUT_BYTES, "It holds a %s, and %s is due there.", held(e->profile.kind), r->place == 1 ? "traffic" : "a port");
     else if (r->asked == READING)
         about_file(e, to);
     else if (r->asked == SHAPING)
@@ -65,9 +70,9 @@ static void about_refusal(const struct route *r, char to[ABOUT_BYTES])
                  "The traffic brings %" PRIu64 " bits a tick in the long run, and this port serves %" PRIu64 " bits a tick.",
                  long_run_rate(&r->hops[r->place - 2].enters), r->hops[r->place - 2].server.rate);
     else if (r->asked == JOINING)
-        add_text(to, ABOUT_BYTES, "The latencies of the ports up to this one, added, are too large.");
+        add_text(to, ABOUT_BYTES, "The latencies on the way up to this one, added, are too large.");
     else if (r->asked == BEHIND)
-        add_text(to, ABOUT_BYTES, "The bursts behind this port are too large.");
+        add_text(to, ABOUT_BYTES, "The bursts behind this %s are too large.", only_delays(e->profile.server) ? "device" : "port");
 }
 
 void say_refusal(const struct route *r)
@@ -97,27 +102,50 @@ static int name_columns(const struct route *r)
 /* printf pads by bytes; this pads by characters. */
 static void put_name(const char *name, int columns) { printf("%s%*s", name, columns - (int)characters(name), ""); }
 
+/* The figures of a line of the table. What only delays has no rate. */
+static void put_figures(struct server s, uint64_t backlog, uint64_t delay)
+{
+    if (only_delays(s))
+        printf("  %8s", "-");
+    else
+        printf("  %8" PRIu64, s.rate);
+    printf("  %8" PRIu64 "  %14" PRIu64 "  %14" PRIu64 "\n", s.latency, backlog, delay);
+}
+
 static void say_figures(const struct route *r)
 {
     int columns = name_columns(r);
     printf("hop  ");
-    put_name("port", columns);
+    put_name(route_delays(r) > 0 ? "device" : "port", columns);
     printf("  %8s  %8s  %14s  %14s\n", "rate", "latency", "backlog (bits)", "delay (ticks)");
     for (size_t i = 0; i < r->hop_count; i++) {
         const struct hop *h = &r->hops[i];
         printf("%3zu  ", i + 1);
         put_name(h->entry.name, columns);
-        printf("  %8" PRIu64 "  %8" PRIu64 "  %14" PRIu64 "  %14" PRIu64 "\n", h->server.rate, h->server.latency, h->backlog,
-               h->delay);
+        put_figures(h->server, h->backlog, h->delay);
     }
     printf("     ");
     put_name("the route", columns);
-    printf("  %8" PRIu64 "  %8" PRIu64 "  %14" PRIu64 "  %14" PRIu64 "\n", r->joined.rate, r->joined.latency, r->backlog, r->delay);
+    put_figures(r->joined, r->backlog, r->delay);
+    if (route_delays(r) > 0)
+        printf("\nWhere the rate is -, the device only delays: it has no rate.\n");
 }
 
-/* The line to write down: it names one port or two, and of more the first and the last. */
+/* Adds to a text what the traffic goes through: "2 ports and 1 device that only delays". */
+static void add_hops(char *to, size_t room, const struct route *r)
+{
+    size_t delays = route_delays(r), ports = r->hop_count - delays;
+    if (ports > 0)
+        add_text(to, room, "%zu %s%s", ports, plural(ports, "port", "ports"), delays > 0 ? " and " : "");
+    if (delays > 0)
+        add_text(to, room, "%zu %s", delays, plural(delays, "device that only delays", "devices that only delay"));
+}
+
+/* The line to write down: it names one hop or two, and of more the first and the last. */
 static void say_line(const struct route *r)
 {
+    char hops[ABOUT_BYTES] = "";
+    add_hops(hops, sizeof hops, r);
     const char *first = r->hops[0].entry.name, *last = r->hops[r->hop_count - 1].entry.name;
     printf("WRITE DOWN: delay %" PRIu64 " %s, for %s", r->delay, plural(r->delay, "tick", "ticks"), r->traffic.name);
     if (r->over_link) {
@@ -131,7 +159,7 @@ static void say_line(const struct route *r)
     else if (r->hop_count == 2)
         printf("%s and %s\n", first, last);
     else
-        printf("%zu ports, %s to %s\n", r->hop_count, first, last);
+        printf("%s, %s to %s\n", hops, first, last);
 }
 
 static void say_link(const struct route *r)
@@ -146,8 +174,9 @@ static void say_link(const struct route *r)
 
 void say_report(const struct route *r)
 {
-    printf("Route of %s%s through %zu %s\n\n", r->traffic.name, r->over_link ? ", over a link and" : "", r->hop_count,
-           plural(r->hop_count, "port", "ports"));
+    char hops[ABOUT_BYTES] = "";
+    add_hops(hops, sizeof hops, r);
+    printf("Route of %s%s through %s\n\n", r->traffic.name, r->over_link ? ", over a link and" : "", hops);
     say_authors(stdout, r);
     printf("\n");
     if (r->over_link) {

@@ -9,6 +9,14 @@ const struct entry *route_entry(const struct route *r, size_t place)
     return place == 1 ? &r->traffic : &r->hops[place - 2].entry;
 }
 
+size_t route_delays(const struct route *r)
+{
+    size_t count = 0;
+    for (size_t i = 0; i < r->hop_count; i++)
+        count += only_delays(r->hops[i].server) ? 1 : 0;
+    return count;
+}
+
 int route_load(struct route *r, const struct store *s, char **names, size_t count)
 {
     memset(r, 0, sizeof *r);
@@ -42,17 +50,19 @@ static int smallest(struct route *r, size_t place, const uint64_t codes[QUESTION
     return r->code == DUCHRELIN_ANSWERED ? ANSWERED : REFUSED;
 }
 
-/* The code of a profile where one of this kind is due: one of the other kind is HEADER. */
-static uint64_t due(const struct entry *e, uint64_t kind)
+/* The code of the profile at a place. Traffic is due at the first one and at no other; what is not due is HEADER. */
+static uint64_t due(const struct route *r, size_t place)
 {
-    return e->code != DUCHRELIN_ANSWERED ? e->code : e->profile.kind == kind ? DUCHRELIN_ANSWERED : DUCHRELIN_HEADER;
+    const struct entry *e = route_entry(r, place);
+    int is_traffic = e->profile.kind == DUCHRELIN_KIND_CURVE;
+    return e->code != DUCHRELIN_ANSWERED ? e->code : is_traffic == (place == 1) ? DUCHRELIN_ANSWERED : DUCHRELIN_HEADER;
 }
 
 /* One hop: joins its port to those before it, asks for its figures, and gives the curve behind it to `behind`. */
 static int run_hop(struct route *r, size_t i, struct curve *behind)
 {
     struct hop *h = &r->hops[i];
-    uint64_t codes[QUESTIONS] = {due(&h->entry, DUCHRELIN_KIND_SERVER)};
+    uint64_t codes[QUESTIONS] = {due(r, i + 2)};
     if (codes[READING] == DUCHRELIN_ANSWERED) {
         h->server = h->entry.profile.server;
         struct server joined = h->server;
@@ -68,7 +78,7 @@ static int run_hop(struct route *r, size_t i, struct curve *behind)
 
 int route_run(struct route *r)
 {
-    uint64_t codes[QUESTIONS] = {due(&r->traffic, DUCHRELIN_KIND_CURVE)};
+    uint64_t codes[QUESTIONS] = {due(r, 1)};
     r->comes = r->traffic.profile.curve;
     if (codes[READING] == DUCHRELIN_ANSWERED && r->over_link)
         codes[SHAPING] = ask_shape(&r->traffic.profile.curve, r->link, &r->comes);

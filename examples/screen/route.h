@@ -1,4 +1,5 @@
-/* A route: traffic through ports, hop by hop and as one; it may come to the first one over a link. */
+/* A route: traffic through ports, hop by hop and as one; it may come to the first one over a link. A device that only delays is a hop
+ * as any port is, and spoken of as one here. */
 #ifndef ROUTE_H
 #define ROUTE_H
 
@@ -39,5 +40,8 @@ int route_run(struct route *r);
 
 /* The entry of a profile by its place, the traffic being 1. */
 const struct entry *route_entry(const struct route *r, size_t place);
+
+/* How many hops of an answered route are devices that only delay. */
+size_t route_delays(const struct route *r);
 
 #endif

@@ -51,8 +51,11 @@ static void say_curve(FILE *to, const struct curve *c, int all_buckets)
 
 void add_server(char *to, size_t room, struct server s)
 {
-    add_text(to, room, "%" PRIu64 " %s a tick after a latency of %" PRIu64 " %s", s.rate, plural(s.rate, "bit", "bits"), s.latency,
-             plural(s.latency, "tick", "ticks"));
+    if (only_delays(s))
+        add_text(to, room, "all there is");
+    else
+        add_text(to, room, "%" PRIu64 " %s a tick", s.rate, plural(s.rate, "bit", "bits"));
+    add_text(to, room, " after a latency of %" PRIu64 " %s", s.latency, plural(s.latency, "tick", "ticks"));
 }
 
 void add_link(char *to, size_t room, struct link l)
@@ -66,9 +69,26 @@ void add_link(char *to, size_t room, struct link l)
 
 static void say_server(FILE *to, struct server s)
 {
-    char words[ABOUT_BYTES] = "port: serves ";
-    add_server(words, sizeof words, s);
+    char words[ABOUT_BYTES] = "";
+    add_text(words, sizeof words, "%s: ", duchrelin_kind_name(s.kind));
+    if (only_delays(s)) {
+        add_text(words, sizeof words, "a device that only delays, by %" PRIu64 " %s", s.latency, plural(s.latency, "tick", "ticks"));
+    } else {
+        add_text(words, sizeof words, "serves ");
+        add_server(words, sizeof words, s);
+    }
     say_sentence(to, words);
+}
+
+/* What a file would be that no edition has. Edition 1 is the one that has no device that only delays. */
+static void about_header(const struct entry *e, char to[ABOUT_BYTES])
+{
+    unsigned edition = e->first >> 4, kind = e->first & 15;
+    if (e->bytes == 0)
+        add_text(to, ABOUT_BYTES, "The file is empty.");
+    else
+        add_text(to, ABOUT_BYTES, "By its first byte it is of edition %u and kind %u%s.", edition, kind,
+                 edition == 1 && kind == DUCHRELIN_KIND_PURE_DELAY ? ", a device that only delays" : "");
 }
 
 void about_file(const struct entry *e, char to[ABOUT_BYTES])
@@ -76,6 +96,8 @@ void about_file(const struct entry *e, char to[ABOUT_BYTES])
     *to = '\0';
     if (e->too_long)
         add_text(to, ABOUT_BYTES, "The file has more bytes than the longest profile, which has %d.", (int)DUCHRELIN_FILE_BYTES);
+    else if (e->code == DUCHRELIN_HEADER)
+        about_header(e, to);
     else if (e->code == DUCHRELIN_LENGTH)
         add_text(to, ABOUT_BYTES, "The file has %zu %s.", e->bytes, plural(e->bytes, "byte", "bytes"));
     else if (e->code == DUCHRELIN_RANGE)
@@ -111,7 +133,20 @@ static void say_trouble(FILE *to, const struct entry *e)
     say_sentence(to, duchrelin_code_advice(e->code));
 }
 
-void say_entry(FILE *to, const struct entry *e, int all_buckets)
+/* What an accepted profile holds. */
+static void say_profile(FILE *to, const struct profile *p, int in_full)
+{
+    if (p->kind == DUCHRELIN_KIND_CURVE)
+        say_curve(to, &p->curve, in_full);
+    else
+        say_server(to, p->server);
+    char words[ABOUT_BYTES] = "";
+    if (in_full)
+        add_text(words, sizeof words, "the file is of edition %" PRIu64, p->edition);
+    say_sentence(to, words);
+}
+
+void say_entry(FILE *to, const struct entry *e, int in_full)
 {
     size_t at = characters(e->name);
     if (at >= NAME_COLUMNS || *e->origin.what == '\0')
@@ -124,10 +159,8 @@ void say_entry(FILE *to, const struct entry *e, int all_buckets)
         put_lines(to, NAME_COLUMNS, NAME_COLUMNS, e->origin.what);
     if (e->error != 0 || e->code != DUCHRELIN_ANSWERED)
         say_trouble(to, e);
-    else if (e->profile.kind == DUCHRELIN_KIND_CURVE)
-        say_curve(to, &e->profile.curve, all_buckets);
     else
-        say_server(to, e->profile.server);
+        say_profile(to, &e->profile, in_full);
     char *origin = origin_words(e->origin);
     say_sentence(to, origin);
     free(origin);

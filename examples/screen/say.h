@@ -6,10 +6,12 @@
 
 #include "store.h"
 
-/* A profile with what it holds, in words and numbers, and who uploaded it. All buckets of a curve, or the first few. */
-void say_entry(FILE *to, const struct entry *e, int all_buckets);
+/* A profile with what it holds, in words and numbers, and who uploaded it. In full: all buckets of a curve, and the file's edition;
+ * otherwise the first few buckets. */
+void say_entry(FILE *to, const struct entry *e, int in_full);
 
-/* Adds to a text what a port does: "6 bits a tick after a latency of 4 ticks". */
+/* Adds to a text what a port serves: "6 bits a tick after a latency of 4 ticks"; of a device that only delays, "all there is after a
+ * latency of 4 ticks". */
 void add_server(char *to, size_t room, struct server s);
 
 /* Adds to a text what a link is: "a link of 100 bits a tick with frames of up to 12304 bits". */

@@ -98,10 +98,11 @@ void entry_load(struct entry *e, const struct store *s, const char *name)
     char file[NAME_BYTES + 1];
     if (!file_name(file, name))
         return;
-    uint8_t bytes[DUCHRELIN_FILE_BYTES + 1]; /* a byte more than any profile has, so that a longer file is refused as one */
+    uint8_t bytes[DUCHRELIN_FILE_BYTES + 1] = {0}; /* a byte more than any profile has, so that a longer file is refused as one */
     e->error = read_file(s->folder, file, bytes, sizeof bytes, &e->bytes);
     if (e->error == 0) {
         e->too_long = e->bytes == sizeof bytes;
+        e->first = bytes[0];
         e->code = ask_read(bytes, e->bytes, &e->profile);
     }
 }

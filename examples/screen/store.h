@@ -17,6 +17,7 @@ struct entry {
     int error;              /* not 0: the file could not be read, and this says why */
     size_t bytes;           /* of the file, */
     int too_long;           /* or it has more than any profile */
+    uint8_t first;          /* its first byte, 0 where there is none: four bits of edition, four of kind */
     uint64_t code;          /* the library's word on the file */
     struct profile profile; /* with code 0: what it holds */
     struct origin origin;

@@ -106,14 +106,18 @@ static void put_curve(FILE *to, const struct plot *d)
             y_of(d, (double)bits));
 }
 
-/* What is served: flat up to the latency, and straight from there to the last tick that can be asked for. */
+/* What is served: flat up to the latency, and straight from there to the last tick that can be asked for; if it only delays, straight
+ * up. */
 static void put_served(FILE *to, const struct plot *d)
 {
     uint64_t from = d->server.latency < d->ticks.end ? d->server.latency : d->ticks.end, bits = 0;
     uint64_t end = d->ticks.end - from < LAST_TICK ? d->ticks.end : from + LAST_TICK;
     ask_served(d->server, end, &bits);
     double x = x_of(d, (double)end), y = y_of(d, (double)bits);
-    if (y < TOP) { /* it leaves the board at the top */
+    if (only_delays(d->server)) {
+        x = x_of(d, (double)from);
+        y = TOP;
+    } else if (y < TOP) { /* it leaves the board at the top */
         x = x_of(d, (double)from) + (x - x_of(d, (double)from)) * (BOTTOM - TOP) / (BOTTOM - y);
         y = TOP;
     }
@@ -154,16 +158,18 @@ static void put_label(FILE *to, const struct label *l, const char *anchor, doubl
     put_words(to, x, BOTTOM - l->row * CELL_HEIGHT + 4.5, look, l->text);
 }
 
-/* The two measures, each with a bar at either end. */
+/* The two measures, each with a bar at either end; wider where what is served, as a step, lies on one of them and is drawn over it. */
 static void put_measures(FILE *to, const struct plot *d)
 {
     const struct measure *m = &d->measure;
+    int step_width = only_delays(d->server) ? 6 : 3;
     if (m->delay > 0)
-        fprintf(to, "<path d=\"M%.1f %.1fv10m0 -5H%.1fm0 -5v10\" fill=\"none\" stroke=\"" DELAY_COLOUR "\" stroke-width=\"3\"/>\n",
-                x_of(d, (double)m->late), y_of(d, (double)m->late_come) - 5, x_of(d, (double)(m->late + m->delay)));
+        fprintf(to, "<path d=\"M%.1f %.1fv10m0 -5H%.1fm0 -5v10\" fill=\"none\" stroke=\"" DELAY_COLOUR "\" stroke-width=\"%d\"/>\n",
+                x_of(d, (double)m->late), y_of(d, (double)m->late_come) - 5, x_of(d, (double)(m->late + m->delay)),
+                m->late_come == 0 ? step_width : 3);
     if (m->backlog > 0)
-        fprintf(to, "<path d=\"M%.1f %.1fh10m-5 0V%.1fm-5 0h10\" fill=\"none\" stroke=\"" BACKLOG_COLOUR "\" stroke-width=\"3\"/>\n",
-                x_of(d, (double)m->full) - 5, y_of(d, (double)m->full_served), y_of(d, (double)m->full_come));
+        fprintf(to, "<path d=\"M%.1f %.1fh10m-5 0V%.1fm-5 0h10\" fill=\"none\" stroke=\"" BACKLOG_COLOUR "\" stroke-width=\"%d\"/>\n",
+                x_of(d, (double)m->full) - 5, y_of(d, (double)m->full_served), y_of(d, (double)m->full_come), step_width);
 }
 
 static void put_labels(FILE *to, const struct plot *d)
@@ -222,12 +228,16 @@ void picture_svg(const struct picture *p, FILE *to)
     put_head(to, p, CAPTION_TOP + put_captions(NULL, p) * LINE_HEIGHT);
     put_legend(to, p);
     put_axes(to, &p->plot);
+    int step = only_delays(p->plot.server);
     fputs("<g clip-path=\"url(#board)\">\n", to);
     put_curve(to, &p->plot);
-    put_served(to, &p->plot); /* over the curve, which shows between its dashes where the two are one */
+    if (!step)
+        put_served(to, &p->plot); /* over the curve, which shows between its dashes where the two are one */
     put_dots(to, &p->plot);
     fputs("</g>\n", to);
     put_measures(to, &p->plot);
+    if (step)
+        put_served(to, &p->plot); /* over the measures too: the backlog lies on the step, and the delay may lie on the flat part */
     put_labels(to, &p->plot);
     put_captions(to, p);
     fputs("</svg>\n", to);

@@ -25,7 +25,7 @@ struct numbers {
 
 /* The profile at hand, as far as its lines have been read. */
 struct draft {
-    char name[TEXT_BYTES], is[TEXT_BYTES], by[TEXT_BYTES];
+    char name[TEXT_BYTES], is[TEXT_BYTES], by[TEXT_BYTES], edition[TEXT_BYTES];
 };
 
 static const char *source_name;
@@ -80,38 +80,50 @@ static struct numbers numbers_of(const char *text)
     return n;
 }
 
-/* The file of a curve or a server, in `bytes`; answers how many bytes it has. */
-static size_t file_of(int is_curve, const struct numbers *n, uint8_t bytes[DUCHRELIN_FILE_BYTES])
+/* The edition that a file is to have. Where no line says so it is the first that has its kind, since every reader knows that one. */
+static uint64_t edition_of(const struct draft *d, uint64_t kind)
 {
-    if (is_curve) {
+    if (*d->edition == '\0')
+        return kind == DUCHRELIN_KIND_PURE_DELAY ? 2 : 1;
+    struct numbers n = numbers_of(d->edition);
+    if (n.count != 1)
+        stop("an edition is one number", "");
+    return n.all[0];
+}
+
+/* The file of a curve, of a server or of a device that only delays, by its kind, in `bytes`. */
+static duchrelin_written file_of(uint64_t edition, uint64_t kind, const struct numbers *n, uint8_t bytes[DUCHRELIN_FILE_BYTES])
+{
+    if (kind == DUCHRELIN_KIND_CURVE) {
         uint64_t curve[DUCHRELIN_CURVE_NUMBERS];
         duchrelin_answer normal = duchrelin_normalise(n->all, n->count, curve, DUCHRELIN_CURVE_NUMBERS);
         check(normal.code);
-        duchrelin_written file =
-            duchrelin_write_curve(curve, DUCHRELIN_BUCKET_NUMBERS * normal.count, bytes, DUCHRELIN_FILE_BYTES);
-        check(file.code);
-        return file.bytes;
+        return duchrelin_write_curve(edition, curve, DUCHRELIN_BUCKET_NUMBERS * normal.count, bytes, DUCHRELIN_FILE_BYTES);
+    }
+    if (kind == DUCHRELIN_KIND_PURE_DELAY) {
+        if (n->count != 1)
+            stop("a delay has one number", "");
+        return duchrelin_write_server(edition, kind, 0, n->all[0], bytes, DUCHRELIN_FILE_BYTES);
     }
     if (n->count != 2)
         stop("a server has two numbers", "");
-    duchrelin_written file = duchrelin_write_server(n->all[0], n->all[1], bytes, DUCHRELIN_FILE_BYTES);
-    check(file.code);
-    return file.bytes;
+    return duchrelin_write_server(edition, kind, n->all[0], n->all[1], bytes, DUCHRELIN_FILE_BYTES);
 }
 
 /* Writes the profile of which all lines are read, and its line of uploads.txt. */
-static void finish(struct draft *d, int is_curve, const char *text, const char *folder, FILE *uploads)
+static void finish(struct draft *d, uint64_t kind, const char *text, const char *folder, FILE *uploads)
 {
     if (*d->name == '\0' || *d->is == '\0' || *d->by == '\0')
         stop("the lines 'profile', 'is' and 'by' come before the numbers", "");
     struct numbers n = numbers_of(text);
     uint8_t bytes[DUCHRELIN_FILE_BYTES];
-    size_t count = file_of(is_curve, &n, bytes);
+    duchrelin_written written = file_of(edition_of(d, kind), kind, &n, bytes);
+    check(written.code);
     FILE *file = open_in(folder, d->name, ".profile");
-    fwrite(bytes, 1, count, file);
+    fwrite(bytes, 1, written.bytes, file);
     close_file(file, d->name);
     fprintf(uploads, "%s | %s | %s\n", d->name, d->is, d->by);
-    *d->name = *d->is = *d->by = '\0';
+    *d->name = *d->is = *d->by = *d->edition = '\0';
 }
 
 static void keep(char to[TEXT_BYTES], const char *text)
@@ -128,6 +140,16 @@ static void keep_name(char to[TEXT_BYTES], const char *text)
     keep(to, text);
 }
 
+/* The kind of profile whose numbers follow a word; 0 where none do. */
+static uint64_t kind_of(const char *word)
+{
+    if (strcmp(word, "curve") == 0)
+        return DUCHRELIN_KIND_CURVE;
+    if (strcmp(word, "server") == 0)
+        return DUCHRELIN_KIND_RATE_LATENCY;
+    return strcmp(word, "delay") == 0 ? DUCHRELIN_KIND_PURE_DELAY : 0;
+}
+
 /* One line of the source, without its line feed. */
 static void take(char *line, struct draft *d, const char *folder, FILE *uploads)
 {
@@ -142,8 +164,10 @@ static void take(char *line, struct draft *d, const char *folder, FILE *uploads)
         keep(d->is, text);
     else if (strcmp(line, "by") == 0)
         keep(d->by, text);
-    else if (strcmp(line, "curve") == 0 || strcmp(line, "server") == 0)
-        finish(d, *line == 'c', text, folder, uploads);
+    else if (strcmp(line, "edition") == 0)
+        keep(d->edition, text);
+    else if (kind_of(line) != 0)
+        finish(d, kind_of(line), text, folder, uploads);
     else
         stop("no such word", line);
 }
@@ -160,7 +184,7 @@ int main(int argc, char **argv)
         stop("cannot be read", strerror(errno));
     FILE *uploads = open_in(argv[2], "uploads", ".txt");
     fprintf(uploads, "# What each profile of this folder is, and who uploaded it: name | what it is | uploaded by\n");
-    struct draft draft = {"", "", ""};
+    struct draft draft = {"", "", "", ""};
     char line[LINE_BYTES];
     while (fgets(line, sizeof line, source) != NULL) {
         line_number++;

@@ -1,7 +1,46 @@
-/* The figures of the scope: P1 to P12, and those that are run. */
+/* The figures of the scope: P1 to P12, those of servers that only delay, and those that are run. */
 #include "harness.h"
 
 #include <string.h>
+
+static void route_says(file input, const char *text)
+{
+    gives(route(input), file_answer((file){(const uint8_t *)text, strlen(text)}));
+}
+
+static void delays(void)
+{
+    test("C and a delay of 4");
+    gives(behind(C, PURE_DELAY(4)), curve_answer(CURVE(3, 32)));
+    gives(backlog(C, PURE_DELAY(4)), figure(32));
+    gives(delay(C, PURE_DELAY(4)), figure(4));
+    test("(6,1) joined with a delay of 3, either way round");
+    gives(join(PORT(6, 1), PURE_DELAY(3)), server_answer(PORT(6, 4)));
+    gives(join(PURE_DELAY(3), PORT(6, 1)), server_answer(PORT(6, 4)));
+    test("delays of 2 and of 3 are one of 5");
+    gives(join(PURE_DELAY(2), PURE_DELAY(3)), server_answer(PURE_DELAY(5)));
+    gives(join(PURE_DELAY(3), PURE_DELAY(2)), server_answer(PURE_DELAY(5)));
+    test("C through (6,1) and then a delay of 3: hop by hop and in one step");
+    gives(behind(CURVE(6, 17, 3, 23), PURE_DELAY(3)), curve_answer(CURVE(3, 32)));
+    gives(delay(C, PORT(6, 1)), figure(3));
+    gives(delay(CURVE(6, 17, 3, 23), PURE_DELAY(3)), figure(3));
+    gives(delay(C, PORT(6, 4)), figure(3 + 3));
+    test("{(0,0)} waits at no delay");
+    for (uint64_t latency = 0; latency < LATENCY_END; latency = 2 * latency + 1) {
+        gives(behind(CURVE(0, 0), PURE_DELAY(latency)), curve_answer(CURVE(0, 0)));
+        gives(backlog(CURVE(0, 0), PURE_DELAY(latency)), figure(0));
+        gives(delay(CURVE(0, 0), PURE_DELAY(latency)), figure(0));
+    }
+    test("a delay of 5 as a file");
+    file of_delay = FILE_OF(0x23, 0x00, 0x00, 0x50);
+    gives(write_server(2, PURE_DELAY(5)), file_answer(of_delay));
+    gives(read_file(of_delay), (outcome){.figures = {2, DUCHRELIN_KIND_PURE_DELAY, 0, 0, 5}});
+    test("the route of C in edition 2, (6,1) in edition 1 and a delay of 3 in edition 2");
+    file mixed = FILE_OF(0x21, 0x04, 0x00, 0x02, 0x80, 0x00, 0x00, 0x00, 0x00, 0x80, 0x00, 0x0c, 0x00, 0x00, 0x00, 0x00, 0x50, /* C */
+                         0x12, 0x00, 0x00, 0x60, 0x00, 0x01, /* (6,1) */
+                         0x23, 0x00, 0x00, 0x30);            /* 3 */
+    route_says(mixed, "hop 1 17 3\nhop 2 32 3\nroute 32 6\n");
+}
 
 void figures_tests(void)
 {
@@ -43,18 +82,18 @@ void figures_tests(void)
     gives(residual(PORT(6, 1), C), server_answer(PORT(3, 5)));
     test("P11: a server as a file");
     file of_server = FILE_OF(0x12, 0x00, 0x00, 0x60, 0x00, 0x01);
-    gives(write_server(PORT(6, 1)), file_answer(of_server));
-    gives(read_file(of_server), (outcome){.figures = {DUCHRELIN_KIND_SERVER, 0, 6, 1}});
+    gives(write_server(1, PORT(6, 1)), file_answer(of_server));
+    gives(read_file(of_server), (outcome){.figures = {1, DUCHRELIN_KIND_RATE_LATENCY, 0, 6, 1}});
     test("P11: a curve as a file");
     file of_curve = FILE_OF(0x11, 0x00, 0x00, 0x02, 0x80, 0x00, 0x00, 0x00, 0x00, 0x80);
-    gives(write_curve(CURVE(10, 2)), file_answer(of_curve));
-    gives(read_file(of_curve), (outcome){.figures = {DUCHRELIN_KIND_CURVE, 1, 0, 0}, .output = (const uint64_t[]){10, 2}, .output_bytes = 16});
+    gives(write_curve(1, CURVE(10, 2)), file_answer(of_curve));
+    const uint64_t list_of_curve[] = {10, 2};
+    gives(read_file(of_curve), (outcome){0, {1, DUCHRELIN_KIND_CURVE, 1, 0, 0}, list_of_curve, sizeof list_of_curve});
     test("P12");
     file p12 = FILE_OF(0x11, 0x04, 0x00, 0x02, 0x80, 0x00, 0x00, 0x00, 0x00, 0x80, 0x00, 0x0c, 0x00, 0x00, 0x00, 0x00, 0x50, /* C */
                        0x12, 0x00, 0x00, 0x60, 0x00, 0x04,                                                                   /* (6,4) */
                        0x12, 0x00, 0x00, 0x50, 0x00, 0x02);                                                                  /* (5,2) */
-    const char *text = "hop 1 32 6\nhop 2 38 9\nroute 38 9\n";
-    gives(route(p12), file_answer((file){(const uint8_t *)text, strlen(text)}));
+    route_says(p12, "hop 1 32 6\nhop 2 38 9\nroute 38 9\n");
 
     test("C at 0, and its burst");
     gives(value(C, 0), figure(0));
@@ -82,4 +121,5 @@ void figures_tests(void)
     test("burst 2^40-1 is taken, 2^40 is not");
     gives(normalise(RAW(0, BURST_END - 1)), curve_answer(CURVE(0, BURST_END - 1)));
     refuses(normalise(RAW(0, BURST_END)), DUCHRELIN_RANGE);
+    delays();
 }

@@ -13,6 +13,8 @@
 _Static_assert(DUCHRELIN_RATE_END == RATE_END && DUCHRELIN_LATENCY_END == LATENCY_END && DUCHRELIN_BURST_END == BURST_END
                    && DUCHRELIN_TICK_END == TICK_END && DUCHRELIN_FRAME_END == FRAME_END,
                "the header has the ends of the ranges");
+_Static_assert(DUCHRELIN_KIND_CURVE == 1 && DUCHRELIN_KIND_RATE_LATENCY == 2 && DUCHRELIN_KIND_PURE_DELAY == 3,
+               "the header has the kinds");
 
 /* ---- tests */
 
@@ -188,11 +190,14 @@ static size_t out_unit(enum call call)
     }
 }
 
-static outcome of_answer(duchrelin_answer a) { return (outcome){a.code, {a.count, 0, 0, 0}, NULL, 0}; }
-static outcome of_figure(duchrelin_figure a) { return (outcome){a.code, {a.figure, 0, 0, 0}, NULL, 0}; }
-static outcome of_server(duchrelin_server a) { return (outcome){a.code, {a.rate, a.latency, 0, 0}, NULL, 0}; }
-static outcome of_profile(duchrelin_profile a) { return (outcome){a.code, {a.kind, a.count, a.rate, a.latency}, NULL, 0}; }
-static outcome of_written(duchrelin_written a) { return (outcome){a.code, {a.bytes, 0, 0, 0}, NULL, 0}; }
+static outcome of_answer(duchrelin_answer a) { return (outcome){a.code, {a.count}, NULL, 0}; }
+static outcome of_figure(duchrelin_figure a) { return (outcome){a.code, {a.figure}, NULL, 0}; }
+static outcome of_server(duchrelin_server a) { return (outcome){a.code, {a.kind, a.rate, a.latency}, NULL, 0}; }
+static outcome of_written(duchrelin_written a) { return (outcome){a.code, {a.bytes}, NULL, 0}; }
+static outcome of_profile(duchrelin_profile a)
+{
+    return (outcome){a.code, {a.edition, a.kind, a.count, a.rate, a.latency}, NULL, 0};
+}
 
 /* The one place that calls the library. */
 static outcome ask(question q)
@@ -201,7 +206,7 @@ static outcome ask(question q)
     const uint8_t *bytes = input.at;
     uint64_t *out = output.at;
     uint8_t *buffer = output.at;
-    server s = q.server;
+    server s = q.server, next = q.next;
     switch (q.call) {
     case NORMALISE:
         return of_answer(duchrelin_normalise(f, q.f.count, out, q.room));
@@ -216,21 +221,21 @@ static outcome ask(question q)
     case SHAPE:
         return of_answer(duchrelin_shape(f, q.f.count, q.number, q.frame, out, q.room));
     case JOIN:
-        return of_server(duchrelin_join(s.rate, s.latency, q.next.rate, q.next.latency));
+        return of_server(duchrelin_join(s.kind, s.rate, s.latency, next.kind, next.rate, next.latency));
     case BEHIND:
-        return of_answer(duchrelin_behind(f, q.f.count, s.rate, s.latency, out, q.room));
+        return of_answer(duchrelin_behind(f, q.f.count, s.kind, s.rate, s.latency, out, q.room));
     case BACKLOG:
-        return of_figure(duchrelin_backlog(f, q.f.count, s.rate, s.latency));
+        return of_figure(duchrelin_backlog(f, q.f.count, s.kind, s.rate, s.latency));
     case DELAY:
-        return of_figure(duchrelin_delay(f, q.f.count, s.rate, s.latency));
+        return of_figure(duchrelin_delay(f, q.f.count, s.kind, s.rate, s.latency));
     case RESIDUAL:
-        return of_server(duchrelin_residual(s.rate, s.latency, f, q.f.count));
+        return of_server(duchrelin_residual(s.kind, s.rate, s.latency, f, q.f.count));
     case READ:
         return of_profile(duchrelin_read(bytes, q.file.count, out, q.room));
     case WRITE_CURVE:
-        return of_written(duchrelin_write_curve(f, q.f.count, buffer, q.room));
+        return of_written(duchrelin_write_curve(q.edition, f, q.f.count, buffer, q.room));
     case WRITE_SERVER:
-        return of_written(duchrelin_write_server(s.rate, s.latency, buffer, q.room));
+        return of_written(duchrelin_write_server(q.edition, s.kind, s.rate, s.latency, buffer, q.room));
     default:
         return of_written(duchrelin_route(bytes, q.file.count, buffer, q.room));
     }
@@ -271,7 +276,7 @@ void gives(question q, outcome expected)
         if (expected.output_bytes > 0)
             memcpy(output.expected + output.offset, expected.output, expected.output_bytes);
         same("code", got.code, expected.code);
-        for (size_t i = 0; i < 4; i++)
+        for (size_t i = 0; i < FIGURES; i++)
             same("figure", got.figures[i], expected.figures[i]);
         holds(&first, "first list");
         holds(&second, "second list");
@@ -288,7 +293,10 @@ static question with_room(question q, size_t room)
 
 void refuses(question q, uint64_t code)
 {
-    gives(q, refusal(code));
+    outcome refused = refusal(code);
+    if (q.call == JOIN || q.call == RESIDUAL)
+        refused.figures[0] = DUCHRELIN_KIND_RATE_LATENCY;
+    gives(q, refused);
     if (out_unit(q.call) != 0)
         gives(with_room(q, 0), refusal(code));
 }
@@ -302,14 +310,14 @@ void gives_by_room(question q, outcome expected, size_t from, size_t to)
 
 /* ---- outcomes */
 
-outcome refusal(uint64_t code) { return (outcome){code, {0, 0, 0, 0}, NULL, 0}; }
-outcome figure(uint64_t number) { return (outcome){0, {number, 0, 0, 0}, NULL, 0}; }
-outcome server_answer(server s) { return (outcome){0, {s.rate, s.latency, 0, 0}, NULL, 0}; }
-outcome file_answer(file f) { return (outcome){0, {f.count, 0, 0, 0}, f.bytes, f.count}; }
+outcome refusal(uint64_t code) { return (outcome){code, {0}, NULL, 0}; }
+outcome figure(uint64_t number) { return (outcome){0, {number}, NULL, 0}; }
+outcome server_answer(server s) { return (outcome){0, {s.kind, s.rate, s.latency}, NULL, 0}; }
+outcome file_answer(file f) { return (outcome){0, {f.count}, f.bytes, f.count}; }
 
 outcome curve_answer(list l)
 {
-    return (outcome){0, {l.count / DUCHRELIN_BUCKET_NUMBERS, 0, 0, 0}, l.numbers, l.count * sizeof(uint64_t)};
+    return (outcome){0, {l.count / DUCHRELIN_BUCKET_NUMBERS}, l.numbers, l.count * sizeof(uint64_t)};
 }
 
 /* ---- questions */
@@ -329,8 +337,14 @@ question backlog(list curve, server at) { return (question){.call = BACKLOG, .f 
 question delay(list curve, server at) { return (question){.call = DELAY, .f = curve, .server = at}; }
 question residual(server at, list cross) { return (question){.call = RESIDUAL, .f = cross, .server = at}; }
 question read_file(file f) { return (question){.call = READ, .file = f, .room = PLENTY}; }
-question write_curve(list curve) { return (question){.call = WRITE_CURVE, .f = curve, .room = PLENTY_OF_BYTES}; }
-question write_server(server s) { return (question){.call = WRITE_SERVER, .server = s, .room = PLENTY_OF_BYTES}; }
+question write_curve(uint64_t edition, list curve)
+{
+    return (question){.call = WRITE_CURVE, .edition = edition, .f = curve, .room = PLENTY_OF_BYTES};
+}
+question write_server(uint64_t edition, server s)
+{
+    return (question){.call = WRITE_SERVER, .edition = edition, .server = s, .room = PLENTY_OF_BYTES};
+}
 question route(file f) { return (question){.call = ROUTE, .file = f, .room = PLENTY_OF_BYTES}; }
 
 /* ---- lists that last to the end */

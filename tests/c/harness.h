@@ -48,20 +48,27 @@ typedef struct {
 } file;
 
 typedef struct {
+    uint64_t kind;
     uint64_t rate;
     uint64_t latency;
 } server;
 
+/* Files are of edition 1 or 2; the first with servers that only delay is 2. */
+enum { EDITIONS = 2, DELAY_EDITION = 2 };
+
 /*
  * RAW(3, 20, 10, 2): a list written out, number by number; CURVE(10, 2, 3, 20): the list of a curve whose rates and bursts are these;
- * NONE, EMPTY: without numbers or bytes; FILE_OF(0x11, 0x00): a file; PORT(6, 1): a server.
+ * NONE, EMPTY: without numbers or bytes; FILE_OF(0x11, 0x00): a file; PORT(6, 1): a server with a rate; PURE_DELAY(4): one that
+ * only delays; SERVER(3, 0, 4): any three numbers.
  */
 #define RAW(...) ((list){(const uint64_t[]){__VA_ARGS__}, sizeof((const uint64_t[]){__VA_ARGS__}) / sizeof(uint64_t)})
 #define CURVE(...) curve_of(RAW(__VA_ARGS__))
 #define NONE ((list){NULL, 0})
 #define FILE_OF(...) ((file){(const uint8_t[]){__VA_ARGS__}, sizeof((const uint8_t[]){__VA_ARGS__})})
 #define EMPTY ((file){NULL, 0})
-#define PORT(rate, latency) ((server){rate, latency})
+#define SERVER(kind, rate, latency) ((server){kind, rate, latency})
+#define PORT(rate, latency) SERVER(DUCHRELIN_KIND_RATE_LATENCY, rate, latency)
+#define PURE_DELAY(latency) SERVER(DUCHRELIN_KIND_PURE_DELAY, 0, latency)
 
 /* The curve of the scope. */
 #define C CURVE(10, 2, 3, 20)
@@ -87,6 +94,7 @@ typedef struct {
     server server, next;
     uint64_t number; /* the tick of value, the link's rate of shape, */
     uint64_t frame;  /* and its longest frame */
+    uint64_t edition;
     size_t room;     /* numbers or bytes of the output */
     int untouched;   /* the output can neither be read nor written while the call runs */
 } question;
@@ -96,10 +104,13 @@ enum { PLENTY = 200, PLENTY_OF_BYTES = 1200 };
 
 /* ---- what must come back */
 
+/* As many figures as a result has behind its code, at the most. */
+enum { FIGURES = 5 };
+
 /* The figures behind the code, in the order of the header's struct, 0 where it has fewer; and what stands at the output's start. */
 typedef struct {
     uint64_t code;
-    uint64_t figures[4];
+    uint64_t figures[FIGURES];
     const void *output;
     size_t output_bytes;
 } outcome;
@@ -113,7 +124,7 @@ outcome file_answer(file answer);
 /* Calls, with the lists against each side of their pages, and checks all that comes back and all that the pages hold. */
 void gives(question asked, outcome expected);
 
-/* The same for a refusal, with plenty of room and with none: ROOM would hold too, and is larger. */
+/* The same for a refusal, with plenty of room and with none: ROOM would hold too, and is larger. A refused server is (2; 0, 0). */
 void refuses(question asked, uint64_t code);
 
 /* The same with outputs of each length from `first` to `last`: ROOM below what the answer needs. */
@@ -133,8 +144,8 @@ question backlog(list curve, server at);
 question delay(list curve, server at);
 question residual(server at, list cross);
 question read_file(file input);
-question write_curve(list curve);
-question write_server(server written);
+question write_curve(uint64_t edition, list curve);
+question write_server(uint64_t edition, server written);
 question route(file input);
 
 /* ---- lists that last to the end */
@@ -169,8 +180,8 @@ typedef struct {
 } builder;
 
 void put(builder *b, unsigned width, uint64_t number);
-void put_curve(builder *b, list curve);
-void put_server(builder *b, server s);
+void put_curve(builder *b, unsigned edition, list curve);
+void put_server(builder *b, unsigned edition, server s);
 file built(const builder *b);
 
 /* ---- the tests, by subject */

@@ -20,7 +20,13 @@ static void no_curve(const char *name, list bad, uint64_t code)
     refuses(backlog(bad, PORT(6, 1)), code);
     refuses(delay(bad, PORT(6, 1)), code);
     refuses(residual(PORT(6, 1), bad), code);
-    refuses(write_curve(bad), code);
+    for (unsigned edition = 1; edition <= EDITIONS; edition++)
+        refuses(write_curve(edition, bad), code);
+    /* At a server that only delays too; it has no rate to share, which is RANGE. */
+    refuses(behind(bad, PURE_DELAY(4)), code);
+    refuses(backlog(bad, PURE_DELAY(4)), code);
+    refuses(delay(bad, PURE_DELAY(4)), code);
+    refuses(residual(PURE_DELAY(4), bad), code < 6 ? code : 6);
 }
 
 static void bad_curves(void)
@@ -61,23 +67,32 @@ static void bad_curves(void)
 }
 
 /* A server that no call takes, whatever stands beside it. */
-static void no_server(const char *name, server bad)
+static void taken_by_none(server bad)
 {
-    testf("no server: %s", name);
     refuses(join(bad, PORT(6, 1)), 6);
     refuses(join(PORT(6, 1), bad), 6);
+    refuses(join(bad, PURE_DELAY(4)), 6);
+    refuses(join(PURE_DELAY(4), bad), 6);
     refuses(join(bad, bad), 6);
     refuses(behind(C, bad), 6);
     refuses(backlog(C, bad), 6);
     refuses(delay(C, bad), 6);
     refuses(residual(bad, C), 6);
-    refuses(write_server(bad), 6);
+    /* A server that only delays is in no file of edition 1, whatever its numbers. */
+    refuses(write_server(1, bad), bad.kind == DUCHRELIN_KIND_PURE_DELAY ? 1 : 6);
+    refuses(write_server(2, bad), 6);
     /* A last rate above every server's that is not in range either would be UNBOUNDED. */
     list steep = CURVE(RATE_END - 1, 5);
     refuses(behind(steep, bad), 6);
     refuses(backlog(steep, bad), 6);
     refuses(delay(steep, bad), 6);
     refuses(residual(bad, steep), 6);
+}
+
+static void no_server(const char *name, server bad)
+{
+    testf("no server: %s", name);
+    taken_by_none(bad);
 }
 
 static void bad_servers(void)
@@ -89,6 +104,30 @@ static void bad_servers(void)
     no_server("latency 2^20", PORT(6, LATENCY_END));
     no_server("the greatest number as a latency", PORT(6, MOST));
     no_server("both out of range", PORT(RATE_END, LATENCY_END));
+
+    no_server("a delay of 2^20", PURE_DELAY(LATENCY_END));
+    no_server("a delay of 2^32", PURE_DELAY(UINT64_C(1) << 32));
+    no_server("a delay of the greatest number", PURE_DELAY(MOST));
+    const uint64_t rates[] = {1, 2, 6, RATE_END - 1, RATE_END, UINT64_C(1) << 32, MOST};
+    for (size_t i = 0; i < sizeof rates / sizeof *rates; i++) {
+        testf("no server: a delay of 4 with rate %" PRIu64, rates[i]);
+        taken_by_none(SERVER(DUCHRELIN_KIND_PURE_DELAY, rates[i], 4));
+    }
+    no_server("a delay of 2^20 with a rate", SERVER(DUCHRELIN_KIND_PURE_DELAY, 6, LATENCY_END));
+}
+
+/* No number but 2 and 3 is a server's kind: not a curve's, and not one that has the same low bits. */
+static void bad_kinds(void)
+{
+    const uint64_t kinds[] = {0, 1, 4, 5, 6, 7, 8, 15, 16, 18, 19, 0x102, 0x103, 0x10002, 0x10003, (UINT64_C(1) << 32) + 2,
+                              (UINT64_C(1) << 32) + 3, (UINT64_C(1) << 63) + 2, (UINT64_C(1) << 63) + 3, MOST - 1, MOST};
+    for (size_t i = 0; i < sizeof kinds / sizeof *kinds; i++) {
+        testf("no server: kind %" PRIu64, kinds[i]);
+        taken_by_none(SERVER(kinds[i], 6, 1));
+        taken_by_none(SERVER(kinds[i], 0, 4));
+        taken_by_none(SERVER(kinds[i], 0, 0));
+        taken_by_none(SERVER(kinds[i], RATE_END, LATENCY_END));
+    }
 }
 
 /* The smallest number over all operands wins, from whichever it comes. */
@@ -110,6 +149,12 @@ static void two_operands(void)
         refuses(backlog(lists[i], PORT(0, 1)), wins);
         refuses(delay(lists[i], PORT(6, LATENCY_END)), wins);
         refuses(residual(PORT(RATE_END, 1), lists[i]), wins);
+        testf("a curve that gives %" PRIu64 ", and a server of no kind, or a delay with a rate", codes[i]);
+        refuses(behind(lists[i], SERVER(4, 6, 1)), wins);
+        refuses(backlog(lists[i], SERVER(DUCHRELIN_KIND_CURVE, 6, 1)), wins);
+        refuses(delay(lists[i], SERVER(DUCHRELIN_KIND_PURE_DELAY, 6, 1)), wins);
+        refuses(residual(SERVER(DUCHRELIN_KIND_PURE_DELAY, 6, 1), lists[i]), wins);
+        refuses(residual(SERVER(0, 6, 1), lists[i]), wins);
     }
     test("FORM before UNBOUNDED");
     list unsorted = CURVE(8, 20, 10, 2);
@@ -123,5 +168,6 @@ void refusal_tests(void)
 {
     bad_curves();
     bad_servers();
+    bad_kinds();
     two_operands();
 }

@@ -2,23 +2,23 @@
 
 Called with the path of the library as a shared object. For every input the code, every figure and count, the whole output list or
 buffer, the operands and the guard words around all of them must be as the reference says. A test is a figure of the scope, a law of
-the references themselves, or a campaign of random inputs of one kind, whose number it prints. The last line is 'N passed, M failed'.
+the references themselves or of the library's answers, a campaign of random inputs of one kind, whose number it prints, or that a case
+came up. The last line is 'N passed, M failed'.
 """
 
-import re
 import sys
-from collections import Counter
 
-import curves
+import counts
 import drawing
+import laws
 import library
 import profiles
-import servers
 from drawing import rng
 from library import BYTES_OUT, CALLS, NOTHING_OUT
 from rules import (
-    BURST_END, COUNT, CURVE_NUMBERS, FORM, HEADER, LARGE, LATENCY_END, LENGTH, MOST_BUCKETS, MOST_SERVERS, PAD, RANGE, RATE_END, UNBOUNDED,
-    NO_SERVER, Server, curve_list, raw_list,
+    BURST_END, COUNT, CURVE_KIND, CURVE_NUMBERS, EDITIONS, HEADER, LARGE, LATENCY_END, MOST_BUCKETS, MOST_SERVERS, PURE_DELAY, RANGE,
+    RATE_END, RATE_LATENCY, UNBOUNDED,
+    NO_SERVER, Server, curve_list, pure_delay, rate_latency, raw_list,
 )
 
 C = [(10, 2), (3, 20)]
@@ -31,8 +31,7 @@ class Tally:
     def __init__(self, functions):
         self.functions = functions
         self.passed = self.failed = 0
-        self.codes = Counter()
-        self.refused_routes = set()
+        self.counts = counts.Counts()
 
     def test(self, name, wrong):
         """One test: it passed where nothing went wrong."""
@@ -48,10 +47,17 @@ class Tally:
         """What is wrong with a call, if anything."""
         wanted = library.expected(exact, operands, out)
         got = library.called(self.functions[name], operands, out)
-        self.codes[name, wanted[0][0]] += 1
-        if name == "route" and wanted[0][0] == 0:
-            self.refused_routes |= {(int(code), int(place)) for code, place in re.findall(rb"^refused (\d+) at (\d+)", exact.output)}
+        self.counts.note(name, operands, exact.output, wanted[0][0])
         return [] if got == wanted else [f"{name} {operands} {out}\n    expected {wanted}\n    got      {got}"]
+
+    def asked(self, name, *operands):
+        """What the library itself answers, with room for every answer: the figures behind the code, and the curve's list or the bytes
+        that it wrote; or nothing where it refuses."""
+        (code, *figures), output = library.answered(self.functions[name], list(operands), an_output(name, MOST_ROOM))
+        if code != 0:
+            return None
+        told = dict(zip(CALLS[name].figures(), figures))
+        return figures, output and output[:told.get("bytes", CURVE_NUMBERS * told.get("count", 0))]
 
     def campaign(self, name, count, draw, call):
         """A test of so many random inputs, each with a random output around the length that is needed."""
@@ -109,56 +115,75 @@ def some_output(name, needed):
 
 def figures(tally):
     """(name, call, operands, figures, output)"""
-    raw, curve = raw_list, curve_list
+    raw, curve, port, wait = raw_list, curve_list, rate_latency, pure_delay
     p1 = raw([(3, 20), (10, 2), (10, 2), (5, 15), (3, 25)])
     behind_6_4 = [(3, 32)]
     server_6_1, curve_10_2 = bytes.fromhex("120000600001"), bytes.fromhex("11000002800000000080")
-    p12 = profiles.curve_file(C) + profiles.server_file(Server(6, 4)) + profiles.server_file(Server(5, 2))
+    p12 = profiles.curve_file(1, C) + profiles.server_file(1, port(6, 4)) + profiles.server_file(1, port(5, 2))
     p12_text = b"hop 1 32 6\nhop 2 38 9\nroute 38 9\n"
-    sixty_four, most = raw([(7, 9)] * 64), Server(1, LATENCY_END - 1)
+    mixed = profiles.curve_file(2, C) + profiles.server_file(1, port(6, 1)) + profiles.server_file(2, wait(3))
+    mixed_text = b"hop 1 17 3\nhop 2 32 3\nroute 32 6\n"
+    delay_5, behind_6_1 = bytes.fromhex("23000050"), [(6, 17), (3, 23)]
+    sixty_four, most = raw([(7, 9)] * 64), port(1, LATENCY_END - 1)
     table = [
         ("P1", "normalise", [p1], (0, 2), curve(C)),
         ("P2", "normalise", [raw([(4, 0), (3, 1), (2, 2)])], (0, 2), curve([(4, 0), (2, 2)])),
         ("P3", "normalise", [raw([(10, 0), (4, 2), (0, 5)])], (0, 3), curve([(10, 0), (4, 2), (0, 5)])),
         ("P4", "sum", [curve(C), curve([(4, 0), (2, 2)])], (0, 3), curve([(14, 2), (12, 4), (5, 22)])),
-        ("P5, behind", "behind", [curve(C), *Server(6, 1)], (0, 2), curve([(6, 17), (3, 23)])),
-        ("P5, backlog", "backlog", [curve(C), *Server(6, 1)], (0, 17), None),
-        ("P5, delay", "delay", [curve(C), *Server(6, 1)], (0, 3), None),
-        ("P6, behind", "behind", [curve(C), *Server(6, 4)], (0, 1), curve(behind_6_4)),
-        ("P6, backlog", "backlog", [curve(C), *Server(6, 4)], (0, 32), None),
-        ("P6, delay", "delay", [curve(C), *Server(6, 4)], (0, 6), None),
-        ("P7, second hop", "behind", [curve(behind_6_4), *Server(5, 2)], (0, 1), curve([(3, 38)])),
-        ("P7, delay of the second hop", "delay", [curve(behind_6_4), *Server(5, 2)], (0, 9), None),
-        ("P7, joined", "join", [*Server(6, 4), *Server(5, 2)], (0, *Server(5, 6)), None),
-        ("P7, one step", "behind", [curve(C), *Server(5, 6)], (0, 1), curve([(3, 38)])),
-        ("P7, delay of one step", "delay", [curve(C), *Server(5, 6)], (0, 9), None),
-        ("P8, behind", "behind", [curve([(5, 7)]), *Server(5, 2)], (0, 1), curve([(5, 17)])),
-        ("P8, delay", "delay", [curve([(5, 7)]), *Server(5, 2)], (0, 4), None),
-        ("P8, refused by behind", "behind", [curve([(6, 7)]), *Server(5, 2)], (UNBOUNDED, 0), []),
-        ("P8, refused by backlog", "backlog", [curve([(6, 7)]), *Server(5, 2)], (UNBOUNDED, 0), None),
-        ("P8, refused by delay", "delay", [curve([(6, 7)]), *Server(5, 2)], (UNBOUNDED, 0), None),
-        ("P9, backlog of nothing", "backlog", [curve([(0, 0)]), *Server(5, 2)], (0, 0), None),
-        ("P9, delay of nothing", "delay", [curve([(0, 0)]), *Server(5, 2)], (0, 0), None),
-        ("P9, backlog", "backlog", [curve([(5, 0)]), *Server(10, 3)], (0, 15), None),
-        ("P9, delay", "delay", [curve([(5, 0)]), *Server(10, 3)], (0, 3), None),
-        ("P10", "residual", [*Server(6, 1), curve(C)], (0, *Server(3, 5)), None),
-        ("P11, server written", "write_server", [*Server(6, 1)], (0, 6), server_6_1),
-        ("P11, server read", "read", [server_6_1], (0, 2, 0, *Server(6, 1)), []),
-        ("P11, curve written", "write_curve", [curve([(10, 2)])], (0, 10), curve_10_2),
-        ("P11, curve read", "read", [curve_10_2], (0, 1, 1, *NO_SERVER), curve([(10, 2)])),
+        ("P5, behind", "behind", [curve(C), *port(6, 1)], (0, 2), curve([(6, 17), (3, 23)])),
+        ("P5, backlog", "backlog", [curve(C), *port(6, 1)], (0, 17), None),
+        ("P5, delay", "delay", [curve(C), *port(6, 1)], (0, 3), None),
+        ("P6, behind", "behind", [curve(C), *port(6, 4)], (0, 1), curve(behind_6_4)),
+        ("P6, backlog", "backlog", [curve(C), *port(6, 4)], (0, 32), None),
+        ("P6, delay", "delay", [curve(C), *port(6, 4)], (0, 6), None),
+        ("P7, second hop", "behind", [curve(behind_6_4), *port(5, 2)], (0, 1), curve([(3, 38)])),
+        ("P7, delay of the second hop", "delay", [curve(behind_6_4), *port(5, 2)], (0, 9), None),
+        ("P7, joined", "join", [*port(6, 4), *port(5, 2)], (0, *port(5, 6)), None),
+        ("P7, one step", "behind", [curve(C), *port(5, 6)], (0, 1), curve([(3, 38)])),
+        ("P7, delay of one step", "delay", [curve(C), *port(5, 6)], (0, 9), None),
+        ("P8, behind", "behind", [curve([(5, 7)]), *port(5, 2)], (0, 1), curve([(5, 17)])),
+        ("P8, delay", "delay", [curve([(5, 7)]), *port(5, 2)], (0, 4), None),
+        ("P8, refused by behind", "behind", [curve([(6, 7)]), *port(5, 2)], (UNBOUNDED, 0), []),
+        ("P8, refused by backlog", "backlog", [curve([(6, 7)]), *port(5, 2)], (UNBOUNDED, 0), None),
+        ("P8, refused by delay", "delay", [curve([(6, 7)]), *port(5, 2)], (UNBOUNDED, 0), None),
+        ("P9, backlog of nothing", "backlog", [curve([(0, 0)]), *port(5, 2)], (0, 0), None),
+        ("P9, delay of nothing", "delay", [curve([(0, 0)]), *port(5, 2)], (0, 0), None),
+        ("P9, backlog", "backlog", [curve([(5, 0)]), *port(10, 3)], (0, 15), None),
+        ("P9, delay", "delay", [curve([(5, 0)]), *port(10, 3)], (0, 3), None),
+        ("P10", "residual", [*port(6, 1), curve(C)], (0, *port(3, 5)), None),
+        ("P11, server written", "write_server", [1, *port(6, 1)], (0, 6), server_6_1),
+        ("P11, server read", "read", [server_6_1], (0, 1, RATE_LATENCY, 0, 6, 1), []),
+        ("P11, curve written", "write_curve", [1, curve([(10, 2)])], (0, 10), curve_10_2),
+        ("P11, curve read", "read", [curve_10_2], (0, 1, CURVE_KIND, 1, 0, 0), curve([(10, 2)])),
         ("P12", "route", [p12], (0, len(p12_text)), p12_text),
+        ("C and a delay of 4, behind", "behind", [curve(C), *wait(4)], (0, 1), curve([(3, 32)])),
+        ("C and a delay of 4, backlog", "backlog", [curve(C), *wait(4)], (0, 32), None),
+        ("C and a delay of 4, delay", "delay", [curve(C), *wait(4)], (0, 4), None),
+        ("(6,1) joined with a delay of 3", "join", [*port(6, 1), *wait(3)], (0, *port(6, 4)), None),
+        ("a delay of 3 joined with (6,1)", "join", [*wait(3), *port(6, 1)], (0, *port(6, 4)), None),
+        ("delays of 2 and 3 joined", "join", [*wait(2), *wait(3)], (0, *wait(5)), None),
+        ("C behind (6,1), delay at a delay of 3", "delay", [curve(behind_6_1), *wait(3)], (0, 3), None),
+        ("C behind (6,1), behind a delay of 3", "behind", [curve(behind_6_1), *wait(3)], (0, 1), curve(behind_6_4)),
+        ("{(0,0)} and a delay of 4", "delay", [curve([(0, 0)]), *wait(4)], (0, 0), None),
+        ("{(0,0)} and the largest delay", "delay", [curve([(0, 0)]), *wait(LATENCY_END - 1)], (0, 0), None),
+        ("the largest rate at a delay", "backlog", [curve([(RATE_END - 1, 0)]), *wait(1)], (0, RATE_END - 1), None),
+        ("a delay has no residual", "residual", [*wait(4), curve(C)], (RANGE, *NO_SERVER), None),
+        ("a delay of 5 written", "write_server", [2, *wait(5)], (0, 4), delay_5),
+        ("a delay of 5 written in edition 1", "write_server", [1, *wait(5)], (HEADER, 0), b""),
+        ("a delay of 5 read", "read", [delay_5], (0, 2, PURE_DELAY, 0, 0, 5), []),
+        ("a route of both kinds and editions", "route", [mixed], (0, len(mixed_text)), mixed_text),
         ("C at 0", "value", [curve(C), 0], (0, 0), None),
         ("the burst of C", "burst", [curve(C)], (0, 2), None),
         ("the burst of {(0,0)}", "burst", [curve([(0, 0)])], (0, 0), None),
-        ("{(0,5)} and (10,0), backlog", "backlog", [curve([(0, 5)]), *Server(10, 0)], (0, 5), None),
-        ("{(0,5)} and (10,0), delay", "delay", [curve([(0, 5)]), *Server(10, 0)], (0, 1), None),
+        ("{(0,5)} and (10,0), backlog", "backlog", [curve([(0, 5)]), *port(10, 0)], (0, 5), None),
+        ("{(0,5)} and (10,0), delay", "delay", [curve([(0, 5)]), *port(10, 0)], (0, 1), None),
         ("shape {(3,20)} by 10", "shape", [curve([(3, 20)]), 10, 0], (0, 2), curve([(10, 0), (3, 20)])),
         ("shape {(3,20)} by 10 with frames of 2", "shape", [curve([(3, 20)]), 10, 2], (0, 2), curve(C)),
         ("shape C by 10 with frames of 2", "shape", [curve(C), 10, 2], (0, 2), curve(C)),
         ("shape C by 12 with frames of 5", "shape", [curve(C), 12, 5], (0, 2), curve(C)),
         ("shape C by 10 with frames of 1", "shape", [curve(C), 10, 1], (0, 2), curve([(10, 1), (3, 20)])),
-        ("join (1, 2^20-1) with (1, 0)", "join", [*most, *Server(1, 0)], (0, *most), None),
-        ("join (1, 2^20-1) with (1, 1)", "join", [*most, *Server(1, 1)], (LARGE, *NO_SERVER), None),
+        ("join (1, 2^20-1) with (1, 0)", "join", [*most, *port(1, 0)], (0, *most), None),
+        ("join (1, 2^20-1) with (1, 1)", "join", [*most, *port(1, 1)], (LARGE, *NO_SERVER), None),
         ("64 raw buckets", "normalise", [sixty_four], (0, 1), curve([(7, 9)])),
         ("65 raw buckets", "normalise", [sixty_four + raw([(7, 9)])], (COUNT, 0), []),
         ("burst 2^40-1", "normalise", [raw([(0, BURST_END - 1)])], (0, 1), curve([(0, BURST_END - 1)])),
@@ -174,33 +199,6 @@ def figures(tally):
         tally.test(name, wrong)
 
 
-# ---- the references themselves
-
-
-def references(tally):
-    law = tally.law
-    law("normal form, two ways", 1500, lambda: [drawing.small_raw()],
-        lambda raw: curves.normal_form(raw) == curves.normal_form_by_trial(raw))
-
-    def port():
-        curve = curves.normal_form(drawing.small_raw())
-        return curve, Server(max(1, curve[-1][0]) + rng.randrange(4), rng.randrange(12))
-
-    law("backlog, ticks beside the crossings and all ticks", 1500, port,
-        lambda curve, server: servers.backlog(curve, server) == servers.backlog_tick_by_tick(curve, server))
-    law("delay, by halving and one by one", 1500, port,
-        lambda curve, server: servers.delay(curve, server) == servers.delay_one_by_one(curve, server))
-
-    def behind_by_ticks(curve, server):
-        """Tick by tick, the greatest gap of what comes u ticks later over what is served by u."""
-        after = curves.normal_form(servers.behind_raw(curve, server))
-        end = 40 + server.latency
-        greatest = lambda t: max(curves.value(curve, t + u) - servers.served(server, u) for u in range(end))
-        return all(curves.value(after, t) == greatest(t) for t in range(8))
-
-    law("behind is the greatest over u, tick by tick", 600, port, behind_by_ticks)
-
-
 # ---- the campaigns
 
 
@@ -209,7 +207,7 @@ def two_curves(curve, chance):
 
 
 def at_port(curve, chance):
-    """A curve's list, then a server's two numbers."""
+    """A curve's list, then a server's numbers."""
     def draw():
         chosen = curve()
         return [drawing.as_curve(chosen, chance)] + drawing.port(drawing.server_for(chosen), chance / 3)
@@ -218,7 +216,7 @@ def at_port(curve, chance):
 
 
 def beside(curve, chance):
-    """A server's two numbers, then a cross curve's list."""
+    """A server's numbers, then a cross curve's list."""
     def draw():
         numbers, *port = at_port(curve, chance)()
         return port + [numbers]
@@ -281,7 +279,7 @@ def burst_at_the_end():
     curve = drawing.curve_of(rng.randint(1, 5), *rng.choice([(4, 3), (2**37, 2**17)]))
     curve = [(rate + steeper, burst) for rate, burst in curve]
     server = drawing.server_for(curve)
-    server = drawing.clamped(server._replace(rate=max(server.rate, curve[-1][0])))
+    server = drawing.clamped(max(server.rate, curve[-1][0]), server.latency, server.kind)
     last_rate, last_burst = curve[-1]
     more = BURST_END - 1 + rng.randint(-1, 1) - last_burst - last_rate * server.latency
     more = max(0, min(more, BURST_END - 1 - last_burst))
@@ -294,14 +292,14 @@ def latency_at_the_end():
     quotient = rng.randrange(LATENCY_END)
     burst = min(BURST_END - 1, max(0, rate * quotient + rng.choice([-1, 0, 0, 1])))
     latency = LATENCY_END - 1 - quotient + rng.randint(-1, 1)
-    return [*drawing.clamped(Server(rate, latency)), curve_list([(rng.randrange(rate), burst)])]
+    return [*drawing.clamped(rate, latency), curve_list([(rng.randrange(rate), burst)])]
 
 
 def joining():
     """Two servers, some with latencies that add up to the end of the range or to one less."""
     first, second = drawing.any_server(), drawing.any_server()
     if rng.random() < 0.3:
-        second = drawing.clamped(Server(second.rate, LATENCY_END - rng.randint(0, 2) - first.latency))
+        second = drawing.clamped(second.rate, LATENCY_END - rng.randint(0, 2) - first.latency, second.kind)
     return drawing.port(first, 0.12) + drawing.port(second, 0.12)
 
 
@@ -337,9 +335,9 @@ def campaigns(tally):
     run("residual, latencies at the end of their range", 1000, latency_at_the_end, "residual")
     run("read, files of small profiles", 8000, lambda: [drawing.some_file(small(), 0.6)], "read")
     run("read, long files", 100, lambda: [drawing.some_file(large(), 0.5)], "read")
-    run("write_curve, small curves", 2000, lambda: [drawing.as_curve(small(), 0.3)], "write_curve")
-    run("write_curve, long curves", 60, lambda: [drawing.as_curve(large(), 0.2)], "write_curve")
-    run("write_server", 2000, lambda: drawing.port(drawing.any_server(), 0.3), "write_server")
+    run("write_curve, small curves", 2000, lambda: [drawing.edition(0.1), drawing.as_curve(small(), 0.3)], "write_curve")
+    run("write_curve, long curves", 60, lambda: [drawing.edition(0), drawing.as_curve(large(), 0.2)], "write_curve")
+    run("write_server", 2500, lambda: [drawing.edition(0.15)] + drawing.port(drawing.any_server(), 0.3), "write_server")
     run("route, small curves", 2500, lambda: [drawing.route_input(small(), 0.4)], "route")
     run("route, long curves", 20, lambda: [drawing.route_input(large(), 0.2)], "route")
 
@@ -347,57 +345,105 @@ def campaigns(tally):
 def every_length(tally):
     """Outputs of every length."""
     full = drawing.curve_of(64, 300, 200)
-    route = profiles.curve_file(C) + b"".join(profiles.server_file(Server(5, latency)) for latency in range(8))
+    route = profiles.curve_file(1, C) + b"".join(profiles.server_file(1, rate_latency(5, latency)) for latency in range(8))
+    mixed = profiles.curve_file(2, C) + b"".join(profiles.server_file(2, pure_delay(latency)) for latency in range(4))
     for name, operands in [
         ("normalise", [raw_list(full[::-1])]),
         ("lower", [curve_list(full[0::2]), curve_list(full[1::2])]),
         ("sum", [curve_list(full[:30]), curve_list(C)]),
         ("shape", [curve_list(full[:20] + full[21:]), *full[20]]),
-        ("behind", [curve_list(full), *Server(full[40][0], 1)]),
-        ("read", [profiles.curve_file(full)]),
-        ("write_curve", [curve_list(full)]),
-        ("write_server", [*Server(6, 1)]),
+        ("behind", [curve_list(full), *rate_latency(full[40][0], 1)]),
+        ("behind", [curve_list(full), *pure_delay(1)]),
+        ("read", [profiles.curve_file(1, full)]),
+        ("read", [profiles.curve_file(2, full)]),
+        ("write_curve", [1, curve_list(full)]),
+        ("write_curve", [2, curve_list(full)]),
+        ("write_server", [1, *rate_latency(6, 1)]),
+        ("write_server", [2, *rate_latency(6, 1)]),
+        ("write_server", [2, *pure_delay(5)]),
         ("route", [route]),
+        ("route", [mixed + profiles.server_file(1, rate_latency(5, 1))]),
     ]:
         tally.every_length(name, operands)
 
 
 def every_damage(tally):
-    """Files with each bit flipped, and of every length; routes of every length."""
-    full = profiles.curve_file(drawing.curve_of(64, 300, 200))
-    for name, file in [("C", profiles.curve_file(C)), ("the server (1,1)", profiles.server_file(Server(1, 1)))]:
+    """Files with each bit flipped, of every length and with every first byte."""
+    full = profiles.curve_file(1, drawing.curve_of(64, 300, 200))
+    delay = profiles.server_file(2, pure_delay(5))
+    files = [(f"C in edition {edition}", profiles.curve_file(edition, C)) for edition in EDITIONS]
+    files += [(f"the server (1,1) in edition {edition}", profiles.server_file(edition, rate_latency(1, 1))) for edition in EDITIONS]
+    for name, file in files + [("a delay of 5", delay)]:
         tally.each(f"read, each bit of {name} flipped", "read", [[drawing.flipped(file, bit)] for bit in range(8 * len(file))])
     tally.each("read, every length of 64 buckets", "read", [[(full + bytes(8))[:length]] for length in range(len(full) + 9)])
-    route = profiles.curve_file(C) + 34 * profiles.server_file(Server(5, 1))
-    tally.each("route, every length of 34 servers", "route", [[route[:length]] for length in range(len(route) + 1)])
+    tally.each("read, every length of a delay", "read", [[(delay + bytes(8))[:length]] for length in range(len(delay) + 9)])
+    tally.each("read, every padding of a delay", "read", [[delay[:-1] + bytes([delay[-1] | bits])] for bits in range(16)])
+    tally.each("read, every first byte", "read", [[bytes([first]) + bytes(more)] for first in range(256) for more in (0, 1, 3, 5, 9)])
+
+
+def every_route(tally):
+    """Routes of every length, and with each byte behind the last server that there may be."""
+    curve, delay = profiles.curve_file(1, C), profiles.server_file(2, pure_delay(1))
+    server = profiles.server_file(1, rate_latency(5, 1))
+    for name, route in [("34 servers", curve + 34 * server), ("34 servers of both kinds", curve + 17 * (delay + server))]:
+        tally.each(f"route, every length of {name}", "route", [[route[:length]] for length in range(len(route) + 1)])
+    longest = curve + MOST_SERVERS // 2 * (server + delay)
+    tally.each("route, each byte behind 32 servers", "route", [[longest + bytes([byte])] for byte in range(256)])
+
+
+def every_refusal(tally):
+    """Each list that is refused beside each server that is, and each edition beside each server."""
+    lists = [[], [1], [9, 9] * 65, curve_list([(RATE_END, 0)]), curve_list(C[::-1]), curve_list(C), curve_list([(RATE_END - 1, 5)])]
+    some = [rate_latency(6, 1), pure_delay(0), pure_delay(4), pure_delay(LATENCY_END - 1)]
+    some += [rate_latency(0, 1), rate_latency(RATE_END, 1), rate_latency(6, LATENCY_END)]
+    some += [pure_delay(LATENCY_END), pure_delay(2**64 - 1)]
+    some += [Server(PURE_DELAY, rate, 4) for rate in (1, RATE_END - 1, RATE_END, 2**32, 2**64 - 1)]
+    some += [Server(kind, rate, 4) for kind in (0, 1, 4, 2**32 + 2, 2**32 + 3, 2**64 - 1) for rate in (0, 6)]
+    for call in ("behind", "backlog", "delay"):
+        tally.each(f"{call}, each list at each server", call, [[numbers, *server] for numbers in lists for server in some])
+    tally.each("residual, each server beside each list", "residual", [[*server, numbers] for numbers in lists for server in some])
+    tally.each("join, each server with each", "join", [[*one, *two] for one in some for two in some])
+    editions = [*range(20), 2**8 + 1, 2**8 + 2, 2**32 + 1, 2**32 + 2, 2**63 + 2, 2**64 - 1]
+    tally.each("write_server, each edition", "write_server", [[edition, *server] for edition in editions for server in some])
+    tally.each("write_curve, each edition", "write_curve", [[edition, numbers] for edition in editions for numbers in lists])
 
 
 def coverage(tally):
-    """Every code that a call can give came up, and every refusal inside a route, at the curve, the first and a later server."""
+    """Every code that a call can give came up, for each sort of its operands, and every refusal inside a route, at each place; and every
+    case at servers that only delay, and of answered routes."""
     for name, call in CALLS.items():
-        times = {code: count for (other, code), count in sorted(tally.codes.items()) if other == name}
+        times = tally.counts.of_call(name)
         print(f"{name}:", ", ".join(f"code {code} {count} times" for code, count in times.items()))
         tally.test(f"{name} came up with every code it can give", sorted(call.codes ^ set(times)))
-
-    at_servers = {HEADER, LENGTH, RANGE, UNBOUNDED, LARGE}
-    for name, places, codes in [
-        ("the curve", range(1, 2), {HEADER, LENGTH, PAD, FORM}),
-        ("the first server", range(2, 3), at_servers),
-        ("a later server", range(3, MOST_SERVERS + 2), at_servers),
-        ("bytes after 32 servers", range(MOST_SERVERS + 2, 100), {COUNT}),
-    ]:
-        found = {code for code, place in tally.refused_routes if place in places}
-        print(f"route refused at {name}:", ", ".join(map(str, sorted(found))))
-        tally.test(f"routes were refused at {name} with every code that can come up there", sorted(found ^ codes))
+    for name, sorts in counts.REQUIRED.items():
+        for sort, codes in sorts.items():
+            tally.test(f"{name} of {sort} came up with every code it can give", sorted(codes ^ tally.counts.of_sort(name, sort)))
+    for name in counts.AT_A_DELAY:
+        for case in counts.DELAY_CASES:
+            times = tally.counts.delayed[name, case]
+            tally.test(f"{name} of a server that only delays came up with {case}", [] if times else ["never"])
+    for place, sorts in counts.REFUSED.items():
+        for sort, codes in sorts.items():
+            found = tally.counts.refused[place, sort]
+            print(f"route refused at {place}, {sort}:", ", ".join(map(str, sorted(found))))
+            tally.test(f"routes were refused at {place}, {sort}, with every code that can come up there", sorted(found ^ codes))
+    for (kinds, editions), count in sorted(tally.counts.answered.items()):
+        print(f"routes answered with servers of kind {kinds} and editions {editions}: {count}")
+    tally.test("routes of every mixture were answered", sorted(counts.ANSWERED ^ set(tally.counts.answered)))
 
 
 def main(path):
     tally = Tally(library.load(path))
     figures(tally)
-    references(tally)
+    laws.references(tally)
+    laws.hops(tally)
+    laws.round_trips(tally)
+    laws.as_before(tally)
     campaigns(tally)
     every_length(tally)
     every_damage(tally)
+    every_route(tally)
+    every_refusal(tally)
     coverage(tally)
     print(f"{tally.passed} passed, {tally.failed} failed")
     return tally.failed != 0

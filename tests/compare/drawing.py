@@ -7,8 +7,9 @@ from math import gcd
 import curves
 import profiles
 from rules import (
-    BURST_END, CURVE_NUMBERS, FRAME_END, LATENCY_END, MOST_SERVERS, RATE_END, RAW_NUMBERS, TICK_END,
-    Server, curve_list, raw_buckets, raw_list,
+    BURST_END, CURVE_NUMBERS, EDITIONS, FRAME_END, KINDS_OF, LATENCY_END, MOST_SERVERS, PURE_DELAY, RATE_END, RATE_LATENCY, RAW_NUMBERS,
+    TICK_END,
+    curve_list, pure_delay, rate_latency, raw_buckets, raw_list,
 )
 
 rng = random.Random(20240611)
@@ -160,13 +161,19 @@ def link(curve, chance):
     return [rate, frame]
 
 
-def clamped(server):
-    return Server(min(RATE_END - 1, max(1, server.rate)), min(LATENCY_END - 1, max(0, server.latency)))
+def clamped(rate, latency, kind=RATE_LATENCY):
+    """A server in range; the rate is left out where it only delays."""
+    latency = min(LATENCY_END - 1, max(0, latency))
+    return pure_delay(latency) if kind == PURE_DELAY else rate_latency(min(RATE_END - 1, max(1, rate)), latency)
 
 
-def server_for(curve):
+def server_kind():
+    return PURE_DELAY if rng.random() < 0.35 else RATE_LATENCY
+
+
+def server_for(curve, kind=None):
     """A server in range that has something to do with the curve: a rate at or beside one of its rates, a latency at or beside one of
-    its crossings, or one with which the last burst just fits, or does not."""
+    its crossings, or one with which the last burst just fits, or does not. Where no kind is asked for some only delay."""
     (last_rate, last_burst), (some_rate, _) = curve[-1], rng.choice(curve)
     rates = [last_rate, last_rate + 1, last_rate - 1, some_rate, some_rate + rng.randint(-1, 1), curve[0][0] + 1]
     rates += [(some_rate + last_rate + 1) // 2, rng.randint(1, 12), rng.randrange(1, RATE_END), RATE_END - 1]
@@ -177,20 +184,35 @@ def server_for(curve):
     fits = (BURST_END - 1 - last_burst) // max(1, last_rate)
     latencies = [0, 0, 1, rng.randint(0, 20), int(crossing) + rng.randint(-1, 2), fits + rng.randint(0, 1)]
     latencies += [rng.randrange(LATENCY_END), LATENCY_END - 1]
-    return clamped(Server(rng.choice(rates), rng.choice(latencies)))
+    return clamped(rng.choice(rates), rng.choice(latencies), kind or server_kind())
 
 
-def any_server():
+def any_server(kind=None):
     latency = rng.choice([0, 1, rng.randint(0, 20), LATENCY_END // 2, LATENCY_END // 2 - 1, rng.randrange(LATENCY_END), LATENCY_END - 1])
-    return Server(rng.choice([1, 2, rng.randint(1, 12), rng.randrange(1, RATE_END), RATE_END - 1]), latency)
+    return clamped(rng.choice([1, 2, rng.randint(1, 12), rng.randrange(1, RATE_END), RATE_END - 1]), latency, kind or server_kind())
 
 
 def port(server, chance):
-    """The numbers of a server, one of them out of range with some chance."""
+    """The numbers of a server, one of them out of range with some chance: for one that only delays a rate is."""
     if rng.random() < chance:
         beyond = [RATE_END, RATE_END + 1, 2**63, 2**64 - 1]
-        server = rng.choice([server._replace(rate=rng.choice([0] + beyond)), server._replace(latency=rng.choice(beyond))])
+        rates = [1, server.latency + 1, RATE_END - 1] if server.kind == PURE_DELAY else [0]
+        server = rng.choice([server._replace(rate=rng.choice(rates + beyond)), server._replace(latency=rng.choice(beyond)),
+                             server._replace(kind=no_kind())])
     return list(server)
+
+
+def no_kind():
+    """No server's kind, though some have the low bits of one."""
+    low_bits = rng.choice([RATE_LATENCY, PURE_DELAY])
+    return rng.choice([0, 1, 4, rng.randint(4, 20), 2**8 + low_bits, 2**32 + low_bits, 2**63 + low_bits, 2**64 - 1])
+
+
+def edition(chance):
+    """An edition, with some chance one that there is not."""
+    if rng.random() < chance:
+        return rng.choice([0, 3, rng.randint(3, 15), 16, 17, 18, 2**8 + 1, 2**8 + 2, 2**32 + 1, 2**32 + 2, 2**63 + 2, 2**64 - 1])
+    return rng.choice(EDITIONS)
 
 
 # ---- files
@@ -200,21 +222,47 @@ def flipped(file, bit):
     return file[:bit // 8] + bytes([file[bit // 8] ^ (128 >> bit % 8)]) + file[bit // 8 + 1:]
 
 
+def server_file(server):
+    """In some edition that has it."""
+    return profiles.server_file(rng.choice([edition for edition in EDITIONS if server.kind in KINDS_OF[edition]]), server)
+
+
+def curve_file(curve):
+    return profiles.curve_file(rng.choice(EDITIONS), curve)
+
+
 def good_file(curve):
-    if rng.random() < 0.3:
-        return profiles.server_file(any_server())
-    return profiles.curve_file(curve)
+    return server_file(any_server()) if rng.random() < 0.4 else curve_file(curve)
 
 
 def of_unsorted(curve):
     """A curve's file with its buckets in another order."""
     mixed = list(curve)
     rng.shuffle(mixed)
-    return profiles.curve_file(mixed)
+    return curve_file(mixed)
+
+
+def with_other_header(file):
+    """With another edition, which may be the other that there is, with another kind, or both."""
+    edition, kind = file[0] >> 4, file[0] & 15
+    edition = rng.choice([edition, edition ^ 3, rng.randrange(16)])
+    kind = rng.choice([kind, kind, rng.randrange(16)])
+    return bytes([edition << 4 | kind]) + file[1:]
+
+
+def damaged_delay():
+    """A file of a server that only delays, in an edition that has none, with padding bits, too short or too long."""
+    file = profiles.server_file(rng.choice([1, 2, 2, 2]), clamped(0, any_server().latency, PURE_DELAY))
+    kind = rng.randrange(3)
+    if kind == 0:
+        return file[:-1] + bytes([file[-1] | rng.randrange(16)])
+    if kind == 1:
+        return (file + rng.choice([bytes(8), rng.randbytes(8)]))[:rng.randrange(9)]
+    return file
 
 
 def damaged_file(file, curve):
-    kind = rng.randrange(10)
+    kind = rng.randrange(12)
     if kind <= 2 and file:
         return flipped(file, rng.randrange(8 * len(file)))
     if kind == 3 and file:
@@ -229,7 +277,11 @@ def damaged_file(file, curve):
         return rng.randbytes(rng.randint(0, 30))
     if kind == 8:
         return of_unsorted(curve)
-    return profiles.server_file(Server(0, rng.randrange(LATENCY_END)))
+    if kind == 9:
+        return damaged_delay()
+    if kind == 10 and file:
+        return with_other_header(file)
+    return server_file(rate_latency(0, rng.randrange(LATENCY_END)))
 
 
 def some_file(curve, chance):
@@ -245,25 +297,26 @@ def route_servers(curve, count):
     servers = []
     for _ in range(count):
         server = server_for(curve)
-        kind = rng.random()
-        if kind < 0.9:
-            server = clamped(Server(max(server.rate, curve[-1][0]), rng.choice([server.latency, rng.randint(0, 9)]) % (LATENCY_END // 16)))
-        elif kind < 0.93:
-            # Too slow and too late at once, if the curve allows it.
-            server = clamped(Server(curve[-1][0] - 1, LATENCY_END - 1))
+        chance = rng.random()
+        if chance < 0.9:
+            latency = rng.choice([server.latency, rng.randint(0, 9)]) % (LATENCY_END // 16)
+            server = clamped(max(server.rate, curve[-1][0]), latency, server.kind)
+        elif chance < 0.93:
+            # Too slow and too late at once, if the curve and the kind allow it.
+            server = clamped(curve[-1][0] - 1, LATENCY_END - 1, server.kind)
         servers.append(server)
     return servers
 
 
 def out_of_place(place, curve):
     """A profile of the other kind, sometimes cut short."""
-    file = profiles.curve_file(curve) if place else profiles.server_file(any_server())
+    file = curve_file(curve) if place else server_file(any_server())
     return file if rng.random() < 0.4 else file[:rng.randint(1, len(file))]
 
 
 def route_input(curve, chance):
     count = rng.choice([1, 1, 2, 2, 3, 4, 5, rng.randint(6, MOST_SERVERS), MOST_SERVERS, MOST_SERVERS + 1])
-    parts = [profiles.curve_file(curve)] + [profiles.server_file(server) for server in route_servers(curve, count)]
+    parts = [curve_file(curve)] + [server_file(server) for server in route_servers(curve, count)]
     if rng.random() < chance:
         place = rng.choice([0, rng.randrange(len(parts)), rng.randrange(len(parts))])
         wrong_kind = rng.random() < 0.25

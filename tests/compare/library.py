@@ -24,7 +24,7 @@ def struct(*names):
 ANSWER = struct("code", "count")
 FIGURE = struct("code", "figure")
 SERVER = struct("code", *Server._fields)
-PROFILE = struct("code", "kind", "count", *Server._fields)
+PROFILE = struct("code", "edition", "kind", "count", "rate", "latency")
 WRITTEN = struct("code", "bytes")
 
 LENT = (ctypes.c_void_p, ctypes.c_size_t)
@@ -43,6 +43,10 @@ class Call(NamedTuple):
     exact: object
     codes: set
 
+    def figures(self):
+        """The names of what it tells behind the code."""
+        return [name for name, _ in self.result._fields_][1:]
+
 
 CALLS = {
     "normalise": Call(LENT, ANSWER, LIST_OUT, curves.normalise, {0, LIST, COUNT, RANGE, ROOM}),
@@ -57,8 +61,8 @@ CALLS = {
     "delay": Call(LENT + PORT, FIGURE, NOTHING_OUT, servers.delay_of, {0, UNBOUNDED} | CURVE_CODES),
     "residual": Call(PORT + LENT, SERVER, NOTHING_OUT, servers.residual_of, {0, UNBOUNDED, LARGE} | CURVE_CODES),
     "read": Call(LENT, PROFILE, LIST_OUT, profiles.read, {0, HEADER, LENGTH, PAD, RANGE, FORM, ROOM}),
-    "write_curve": Call(LENT, WRITTEN, BYTES_OUT, profiles.write_curve, {0, ROOM} | CURVE_CODES),
-    "write_server": Call(PORT, WRITTEN, BYTES_OUT, profiles.write_server, {0, RANGE, ROOM}),
+    "write_curve": Call(NUMBER + LENT, WRITTEN, BYTES_OUT, profiles.write_curve, {0, HEADER, ROOM} | CURVE_CODES),
+    "write_server": Call(NUMBER + PORT, WRITTEN, BYTES_OUT, profiles.write_server, {0, HEADER, RANGE, ROOM}),
     "route": Call(LENT, WRITTEN, BYTES_OUT, routes.route, {0, ROOM}),
 }
 
@@ -102,6 +106,15 @@ def called(function, operands, out):
     result = function(*passed)
     held = [bytes(block) if block._type_ is ctypes.c_uint8 else list(block) for block in blocks]
     return tuple(getattr(result, name) for name, _ in result._fields_), held
+
+
+def answered(function, operands, out):
+    """Calls; answers the result and what stands in the whole output, if the call has one."""
+    figures, held = called(function, operands, out)
+    if out is NOTHING_OUT:
+        return figures, None
+    guard = len(BYTE_GUARD) if isinstance(out, bytes) else len(GUARD)
+    return figures, held[-1][guard:-guard]
 
 
 def expected(exact, operands, out):

@@ -2,7 +2,7 @@
 
 from curves import curve_refusals, in_normal_form
 from rules import (
-    CURVE_KIND, EDITION, FORM, HEADER, LENGTH, NO_SERVER, PAD, SERVER_KIND,
+    CURVE_KIND, FORM, HEADER, KINDS_OF, LENGTH, PAD, PURE_DELAY,
     Exact, Server, curve_buckets, curve_list,
 )
 from servers import server_refusals
@@ -26,14 +26,15 @@ def packed(bits):
     return bytes(int(bits[at:at + 8], 2) for at in range(0, len(bits), 8))
 
 
-def curve_file(curve):
-    header = field(EDITION_BITS, EDITION) + field(KIND_BITS, CURVE_KIND) + field(COUNT_BITS, len(curve) - 1)
+def curve_file(edition, curve):
+    header = field(EDITION_BITS, edition) + field(KIND_BITS, CURVE_KIND) + field(COUNT_BITS, len(curve) - 1)
     return packed(header + "".join(field(RATE_BITS, rate) + field(BURST_BITS, burst) for rate, burst in curve))
 
 
-def server_file(server):
-    header = field(EDITION_BITS, EDITION) + field(KIND_BITS, SERVER_KIND)
-    return packed(header + field(RATE_BITS, server.rate) + field(LATENCY_BITS, server.latency))
+def server_file(edition, server):
+    header = field(EDITION_BITS, edition) + field(KIND_BITS, server.kind)
+    rate = "" if server.kind == PURE_DELAY else field(RATE_BITS, server.rate)
+    return packed(header + rate + field(LATENCY_BITS, server.latency))
 
 
 class Fields:
@@ -51,18 +52,27 @@ class Fields:
         return self.bits[self.at:]
 
 
-def required_bytes(file):
-    """(kind, bytes) that a header requires: no kind if it is none; no byte count if the curve's count is not there."""
+def header(file):
+    """(edition, kind) of a file; none where it has no byte."""
     if len(file) == 0:
         return None, None
-    fields = Fields(file)
-    edition, kind = fields.take(EDITION_BITS), fields.take(KIND_BITS)
-    if edition != EDITION or kind not in (CURVE_KIND, SERVER_KIND):
+    fields = Fields(file[:1])
+    return fields.take(EDITION_BITS), fields.take(KIND_BITS)
+
+
+def required_bytes(file):
+    """(kind, bytes) that a header requires: no kind if its edition has none such; no byte count if the curve's count is not there."""
+    edition, kind = header(file)
+    if kind not in KINDS_OF.get(edition, ()):
         return None, None
-    if kind == SERVER_KIND:
+    if kind == PURE_DELAY:
+        return kind, bytes_for(HEADER_BITS + LATENCY_BITS)
+    if kind != CURVE_KIND:
         return kind, bytes_for(HEADER_BITS + RATE_BITS + LATENCY_BITS)
     if len(file) == 1:
         return kind, None
+    fields = Fields(file[:2])
+    fields.take(HEADER_BITS)
     count = fields.take(COUNT_BITS) + 1
     return kind, bytes_for(HEADER_BITS + COUNT_BITS + count * (RATE_BITS + BURST_BITS))
 
@@ -76,14 +86,15 @@ def parsed(file):
         return {LENGTH}, None, None
     fields = Fields(file)
     fields.take(HEADER_BITS)
-    if kind == SERVER_KIND:
-        server = Server(fields.take(RATE_BITS), fields.take(LATENCY_BITS))
-        return server_refusals(server), None, server
-    curve = [(fields.take(RATE_BITS), fields.take(BURST_BITS)) for _ in range(fields.take(COUNT_BITS) + 1)]
-    lines = {PAD} if "1" in fields.rest() else set()
-    if not in_normal_form(tuple(curve)):
-        lines.add(FORM)
-    return lines, curve, None
+    curve = server = None
+    if kind == CURVE_KIND:
+        curve = [(fields.take(RATE_BITS), fields.take(BURST_BITS)) for _ in range(fields.take(COUNT_BITS) + 1)]
+        lines = set() if in_normal_form(tuple(curve)) else {FORM}
+    else:
+        rate = 0 if kind == PURE_DELAY else fields.take(RATE_BITS)
+        server = Server(kind, rate, fields.take(LATENCY_BITS))
+        lines = server_refusals(server)
+    return lines | ({PAD} if "1" in fields.rest() else set()), curve, server
 
 
 # ---- the questions
@@ -91,9 +102,11 @@ def parsed(file):
 
 def read(file):
     lines, curve, server = parsed(file)
+    edition, kind = header(file)
     if curve is not None:
-        return Exact(lines, (CURVE_KIND, len(curve), *NO_SERVER), curve_list(curve))
-    return Exact(lines, (SERVER_KIND, 0, *(server or NO_SERVER)), [])
+        return Exact(lines, (edition, kind, len(curve), 0, 0), curve_list(curve))
+    rate, latency = (server.rate, server.latency) if server else (0, 0)
+    return Exact(lines, (edition, kind, 0, rate, latency), [])
 
 
 def written(lines, file):
@@ -104,10 +117,18 @@ def written(lines, file):
     return Exact(set(), (len(made),), made)
 
 
-def write_curve(curve):
-    return written(curve_refusals(curve), lambda: curve_file(curve_buckets(curve)))
+def edition_refusals(edition, kind):
+    """There is no such edition, or it has not a kind that another one has."""
+    known = kind in set().union(*KINDS_OF.values())
+    return {HEADER} if edition not in KINDS_OF or (known and kind not in KINDS_OF[edition]) else set()
 
 
-def write_server(*port):
+def write_curve(edition, curve):
+    lines = edition_refusals(edition, CURVE_KIND) | curve_refusals(curve)
+    return written(lines, lambda: curve_file(edition, curve_buckets(curve)))
+
+
+def write_server(edition, *port):
     server = Server(*port)
-    return written(server_refusals(server), lambda: server_file(server))
+    lines = edition_refusals(edition, server.kind) | server_refusals(server)
+    return written(lines, lambda: server_file(edition, server))

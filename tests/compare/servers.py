@@ -3,22 +3,32 @@
 A difference of a curve's value and of what is served bends only where two buckets cross and where the latency ends. Between two bends
 it is a straight line, so over the whole ticks there it is greatest at the first or the last of them; after the last bend it does not
 rise, as long as the last rate is not above the server's. So the ticks beside every bend are enough; where they are few, all ticks up
-to past the last bend are tried.
+to past the last bend are tried. A server that only delays has served without limit once its latency is over: there the difference is
+less than every number.
 """
 
 from fractions import Fraction
-from math import ceil, floor
+from math import ceil, floor, inf
 
 from curves import crossings, curve_answer, curve_refusals, value
-from rules import LARGE, NO_SERVER, RANGE, SERVER_NUMBERS, UNBOUNDED, Exact, Server, curve_buckets, server_in_range
+from rules import (
+    LARGE, NO_SERVER, PURE_DELAY, RANGE, SERVER_NUMBERS, UNBOUNDED,
+    Exact, Server, curve_buckets, pure_delay, rate_latency, server_in_range,
+)
 
 ALL_TICKS = 20  # up to here all ticks are tried
 ALL_PAIRS = 12  # up to so many buckets all crossings are taken
 TRIED_ONE_BY_ONE = 8  # up to here all delays are tried
 
 
-def served(server, tick):
-    return server.rate * max(0, tick - server.latency)
+def limit(server):
+    """The most bits that it serves in a tick."""
+    return inf if server.kind == PURE_DELAY else server.rate
+
+
+def served(server, time):
+    """Nothing up to the latency; after it by the rate, or without limit."""
+    return limit(server) * (time - server.latency) if time > server.latency else 0
 
 
 def bends(curve):
@@ -56,10 +66,21 @@ def backlog(curve, server):
 
 def excess(curve, rate):
     """M, the greatest of value(s) - rate * s."""
-    return greatest(curve, readings(curve), Server(rate, 0))
+    return greatest(curve, readings(curve), rate_latency(rate, 0))
 
 
 def delay(curve, server):
+    if server.kind == PURE_DELAY:
+        return infimum_of_delays(curve, server)
+    return smallest_delay(curve, server)
+
+
+def infimum_of_delays(curve, server):
+    """Whatever comes leaves within any time above T, and nothing within less: the infimum is T, but 0 where nothing ever comes."""
+    return 0 if (0, 0) in curve else server.latency
+
+
+def smallest_delay(curve, server):
     """The smallest d that suffices: tried from 0 on; past the first few by halving, as more than enough is enough too."""
     read = readings(curve)
     suffices = lambda d: greatest(curve, read, server, d) <= 0
@@ -84,6 +105,12 @@ def delay_one_by_one(curve, server):
     return d
 
 
+def delay_by_fractions(curve, server, parts):
+    """For a server that only delays: the smallest multiple of 1/parts that suffices at all such times, up to past the latency."""
+    times = [Fraction(part, parts) for part in range((server.latency + 1) * parts + 1)]
+    return next(d for d in times if all(value(curve, time) <= served(server, time + d) for time in times))
+
+
 def backlog_tick_by_tick(curve, server):
     end = floor(max(crossings(curve), default=0)) + server.latency + 2
     return max(value(curve, tick) - served(server, tick) for tick in range(end))
@@ -91,17 +118,25 @@ def backlog_tick_by_tick(curve, server):
 
 def behind_raw(curve, server):
     """The raw buckets whose normal form is the curve behind the server."""
-    burst = server.rate * server.latency + excess(curve, server.rate)
-    return [(r, b + r * server.latency) for r, b in curve if r <= server.rate] + [(server.rate, burst)]
+    shifted = [(r, b + r * server.latency) for r, b in curve if r <= limit(server)]
+    if server.kind == PURE_DELAY:
+        return shifted
+    return shifted + [(server.rate, server.rate * server.latency + excess(curve, server.rate))]
 
 
 def join(server, following):
-    return Server(min(server.rate, following.rate), server.latency + following.latency)
+    rate, latency = min(limit(server), limit(following)), server.latency + following.latency
+    return pure_delay(latency) if rate == inf else rate_latency(rate, latency)
+
+
+def served_by_both(server, following, tick):
+    """The convolution: the least, over all ticks between, of what one has served by then and the other in the rest of the time."""
+    return min(served(server, first) + served(following, tick - first) for first in range(tick + 1))
 
 
 def residual(server, cross):
     rate, burst = cross[-1]
-    return Server(server.rate - rate, server.latency + ceil(Fraction(burst, server.rate)))
+    return rate_latency(server.rate - rate, server.latency + ceil(Fraction(burst, server.rate)))
 
 
 # ---- refusals
@@ -114,7 +149,7 @@ def server_refusals(server):
 def port_refusals(numbers, server):
     """The lines of a curve and a server."""
     lines = curve_refusals(numbers) | server_refusals(server)
-    return lines or unbounded(curve_buckets(numbers)[-1][0] > server.rate)
+    return lines or unbounded(curve_buckets(numbers)[-1][0] > limit(server))
 
 
 def unbounded(holds):
@@ -124,9 +159,9 @@ def unbounded(holds):
 def server_answer(refusals, answer):
     """The answer of a question that asks for a server."""
     if refusals:
-        return Exact(refusals, NO_SERVER)
+        return Exact(refusals, NO_SERVER, refused=NO_SERVER)
     server = answer()
-    return Exact(set() if server_in_range(server) else {LARGE}, tuple(server))
+    return Exact(set() if server_in_range(server) else {LARGE}, tuple(server), refused=NO_SERVER)
 
 
 # ---- the questions (`port` is a server's numbers)
@@ -157,6 +192,7 @@ backlog_of, delay_of = figure_of(backlog), figure_of(delay)
 def residual_of(*port_and_cross):
     *port, cross = port_and_cross
     server = Server(*port)
-    lines = curve_refusals(cross) | server_refusals(server)
+    nothing_to_share = {RANGE} if server.kind == PURE_DELAY else set()
+    lines = curve_refusals(cross) | server_refusals(server) | nothing_to_share
     lines = lines or unbounded(curve_buckets(cross)[-1][0] >= server.rate)
     return server_answer(lines, lambda: residual(server, curve_buckets(cross)))

@@ -5,11 +5,11 @@
 #include <duchrelin.h>
 #include <duchrelin_words.h>
 
-static int report(const uint64_t *curve, size_t numbers, uint64_t rate, uint64_t latency)
+static int report(const uint64_t *curve, size_t numbers, uint64_t kind, uint64_t rate, uint64_t latency)
 {
-    duchrelin_figure delay = duchrelin_delay(curve, numbers, rate, latency);
+    duchrelin_figure delay = duchrelin_delay(curve, numbers, kind, rate, latency);
     if (delay.code == DUCHRELIN_ANSWERED) {
-        printf("delay %" PRIu64 "\n", delay.figure);
+        printf("%s: %" PRIu64 " ticks\n", duchrelin_kind_name(kind), delay.figure);
         return 0;
     }
     printf("%s: %s\n", duchrelin_code_name(delay.code), duchrelin_code_meaning(delay.code));
@@ -24,5 +24,7 @@ int main(void)
     size_t numbers = (size_t)(DUCHRELIN_BUCKET_NUMBERS * normal.count);
     if (normal.code != DUCHRELIN_ANSWERED)
         return 2;
-    return report(curve, numbers, 6, 4) == 0 && report(curve, numbers, 2, 4) == 1 ? 0 : 1;
+    int answered = report(curve, numbers, DUCHRELIN_KIND_RATE_LATENCY, 6, 4) == 0;
+    answered = report(curve, numbers, DUCHRELIN_KIND_PURE_DELAY, 0, 4) == 0 && answered;
+    return report(curve, numbers, DUCHRELIN_KIND_RATE_LATENCY, 2, 4) == 1 && answered ? 0 : 1;
 }

@@ -11,11 +11,13 @@
 
 mod campaigns;
 mod curves;
+mod kinds;
 mod laws;
 mod lent;
 #[allow(unsafe_code)]
 mod library;
 mod lists;
+mod notes;
 mod ports;
 mod profiles;
 mod questions;
@@ -37,6 +39,6 @@ fn main() -> ExitCode {
     campaigns::campaigns(&mut run);
     laws::laws(&mut run);
     run.coverage();
-    let names: Vec<&str> = campaigns::names().chain(laws::NAMES.iter().copied()).collect();
+    let names: Vec<&str> = campaigns::names().chain(laws::names()).collect();
     ExitCode::from(u8::from(!run.conclude(&names)))
 }

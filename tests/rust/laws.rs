@@ -5,11 +5,11 @@ use super::lent::ask_of_one_list;
 use super::library;
 use super::lists::*;
 use super::ports::*;
-use super::profiles::{curve_file, server_file, CURVE_KIND, SERVER_KIND};
-use super::questions::{self, at_port, of_two, Operation, Told};
+use super::profiles::editions_of;
+use super::questions::{self, at_port, of_curve_read, of_server_read, of_two, Operation, Told};
 use super::rules::*;
 use super::run::Run;
-use super::servers::{behind_raw, greatest};
+use super::servers::{ahead, behind_raw, greatest};
 use Operation::*;
 
 const SHORT: usize = 8_000;
@@ -43,17 +43,39 @@ const BEHIND_GREATEST: &str = "law: behind at a tick is the greatest gap of arri
 const BACKLOG_BEHIND: &str = "law: backlog is the burst of behind";
 const DELAY_ENOUGH: &str = "law: what has come by a tick is served when the delay is over";
 const DELAY_LEAST: &str = "law: one tick less than the delay is too short at some tick";
+const ABOVE_ENOUGH: &str = "law: every number above the delay of a pure delay is enough at every tick";
+const BELOW_TOO_SHORT: &str = "law: no number below the delay of a pure delay is enough at every tick";
+const HALF_A_TICK: &str = "law: half a tick more than the delay of a pure delay is enough at half ticks, half a tick less is not";
+const NOTHING_WAITS: &str = "law: no delay of a pure delay for the curve 0";
 const REFUSED_ALIKE: &str = "law: behind, backlog and delay refuse alike, but for LARGE";
-const ONE_STEP: &str = "law: hop by hop is one step through the joined server";
-const ONE_STEP_TURNED: &str = "law: the hops the other way round give the same curve";
-const DELAYS_ADDED: &str = "law: the delay of one step is at most the two delays added";
+const NO_DELAY: &str = "law: a pure delay of 0 hands on the curve and joins without a change";
+const ONE_STEP: [&str; 4] = [
+    "law: hop by hop is one step through the joined server, two rate-latency servers",
+    "law: hop by hop is one step through the joined server, a rate-latency server and a pure delay",
+    "law: hop by hop is one step through the joined server, a pure delay and a rate-latency server",
+    "law: hop by hop is one step through the joined server, two pure delays",
+];
+const ONE_STEP_TURNED: [&str; 4] = [
+    "law: the hops the other way round give the same curve, two rate-latency servers",
+    "law: the hops the other way round give the same curve, a rate-latency server and a pure delay",
+    "law: the hops the other way round give the same curve, a pure delay and a rate-latency server",
+    "law: the hops the other way round give the same curve, two pure delays",
+];
+const DELAYS_ADDED: [&str; 4] = [
+    "law: the delay of one step is at most the two delays added, two rate-latency servers",
+    "law: the delay of one step is at most the two delays added, a rate-latency server and a pure delay",
+    "law: the delay of one step is at most the two delays added, a pure delay and a rate-latency server",
+    "law: the delay of one step is at most the two delays added, two pure delays",
+];
 const RESIDUAL_LEAST: &str = "law: the residual server never serves more than what is left";
 const WRITTEN_READ: &str = "law: a profile written and read again is the same";
 const READ_WRITTEN: &str = "law: a file accepted and written again is the same";
+const EDITIONS_ALIKE: &str = "law: the editions of a file differ in their number alone";
 const ROUTE_BY_CALLS: &str = "law: a route's text has the figures of the single calls";
+const ROUTE_EDITIONS: &str = "law: the editions of a route's files change nothing";
 const ROUTE_DECIDED: &str = "law: 675 bytes decide a route";
 
-pub const NAMES: &[&str] = &[
+const NAMES: &[&str] = &[
     NORMAL_ANSWERS,
     NORMAL_AGAIN,
     NORMALISE_ANSWERS,
@@ -80,16 +102,25 @@ pub const NAMES: &[&str] = &[
     BACKLOG_BEHIND,
     DELAY_ENOUGH,
     DELAY_LEAST,
+    ABOVE_ENOUGH,
+    BELOW_TOO_SHORT,
+    HALF_A_TICK,
+    NOTHING_WAITS,
     REFUSED_ALIKE,
-    ONE_STEP,
-    ONE_STEP_TURNED,
-    DELAYS_ADDED,
+    NO_DELAY,
     RESIDUAL_LEAST,
     WRITTEN_READ,
     READ_WRITTEN,
+    EDITIONS_ALIKE,
     ROUTE_BY_CALLS,
+    ROUTE_EDITIONS,
     ROUTE_DECIDED,
 ];
+
+/// All of them, each of which must have had inputs.
+pub fn names() -> impl Iterator<Item = &'static str> {
+    NAMES.iter().copied().chain(ONE_STEP).chain(ONE_STEP_TURNED).chain(DELAYS_ADDED)
+}
 
 impl Run {
     fn law(&mut self, name: &'static str, good: bool, operands: &[&[u64]]) {
@@ -226,19 +257,23 @@ fn laws_of_three(run: &mut Run, f: &[u64], g: &[u64], h: &[u64]) {
 // ---- servers
 
 fn numbers(servers: &[Server]) -> Vec<u64> {
-    servers.iter().flat_map(|server| [server.rate, server.latency]).collect()
+    let three = |server: &Server| {
+        let Passed { kind, rate, latency } = (*server).into();
+        [kind, rate, latency]
+    };
+    servers.iter().flat_map(three).collect()
 }
 
 fn laws_of_join(run: &mut Run) {
     let [first, second] = two_servers(&mut run.rng);
     let third = any_server(&mut run.rng);
-    let third = server(third.rate, third.latency % 16);
+    let third = third.with_latency(third.latency() % 16);
     let told = run.answer(&questions::join(first, second));
     let turned = run.answer(&questions::join(second, first));
-    run.law(JOIN_TURNED, told == turned, &[&numbers(&[first, second])]);
+    run.check(JOIN_TURNED, told == turned, || format!("{first:?} {second:?}"));
     if let (Some(left), Some(right)) = (told.server(), run.answer(&questions::join(second, third)).server()) {
         let (left, right) = (run.answer(&questions::join(left, third)), run.answer(&questions::join(first, right)));
-        run.law(JOIN_GROUPED, left == right, &[&numbers(&[first, second, third])]);
+        run.check(JOIN_GROUPED, left == right, || format!("{first:?} {second:?} {third:?}"));
     }
 }
 
@@ -247,14 +282,11 @@ fn laws_of_join(run: &mut Run) {
 fn greatest_gap(run: &mut Run, curve: &[Bucket], server: Server, t: u64, early: u64) -> Option<i128> {
     let list = curve_list(curve);
     let last = curve.windows(2).last().map_or(0, |b| (b[1].burst - b[0].burst) / (b[0].rate - b[1].rate));
-    let end = last + server.latency + 2;
+    let end = last + server.latency() + 2;
     if t + 2 * end >= TICK_END {
         return None;
     }
-    let mut gap = |u: u64| {
-        let value = run.reading(&list, t + u).expect("a value");
-        value as i128 - server.served(u + early) as i128
-    };
+    let mut gap = |u: u64| ahead(run.reading(&list, t + u).expect("a value"), server.served(u + early));
     if end <= 40 {
         (0..=end).map(gap).max()
     } else {
@@ -279,25 +311,64 @@ fn laws_of_port(run: &mut Run, curve: &[Bucket], server: Server) {
         }
     }
     let Some(d) = delay.figure() else { return };
-    if let Some(late) = greatest_gap(run, curve, server, 0, d) {
-        run.law(DELAY_ENOUGH, late <= 0, &told);
-        let too_short = d == 0 || greatest_gap(run, curve, server, 0, d - 1).is_some_and(|late| late > 0);
-        run.law(DELAY_LEAST, too_short, &told);
+    match server {
+        Server::RateLatency { .. } => laws_of_delay(run, curve, server, d),
+        Server::PureDelay { .. } => laws_of_pure_delay(run, curve, server, d),
     }
 }
 
+fn laws_of_delay(run: &mut Run, curve: &[Bucket], server: Server, d: u64) {
+    let told = || format!("{curve:?} {server:?} {d}");
+    if let Some(late) = greatest_gap(run, curve, server, 0, d) {
+        run.check(DELAY_ENOUGH, late <= 0, told);
+        let too_short = d == 0 || greatest_gap(run, curve, server, 0, d - 1).is_some_and(|late| late > 0);
+        run.check(DELAY_LEAST, too_short, told);
+    }
+}
+
+/// The delay of a pure delay is the end of what is too short, and need not be enough itself. Ticks alone do not tell it from
+/// the next number where there is a burst; half ticks do, and there the curve is read without the library.
+fn laws_of_pure_delay(run: &mut Run, curve: &[Bucket], server: Server, d: u64) {
+    let told = || format!("{curve:?} {server:?} {d}");
+    for more in [1, 2, 1 + run.rng.below(40), 1 + run.rng.below(LATENCY_END)] {
+        if let Some(late) = greatest_gap(run, curve, server, 0, d + more) {
+            run.check(ABOVE_ENOUGH, late <= 0, told);
+        }
+    }
+    if *curve == [bucket(0, 0)] {
+        run.check(NOTHING_WAITS, d == 0, told);
+        return;
+    }
+    for below in [d.checked_sub(1), d.checked_sub(2), d.checked_sub(1 + run.rng.below(40)), Some(0).filter(|_| d > 0)] {
+        if let Some(late) = below.and_then(|below| greatest_gap(run, curve, server, 0, below)) {
+            run.check(BELOW_TOO_SHORT, late > 0, told);
+        }
+    }
+    let late = |halves: u64| greatest(|p| ahead(least(curve, p.into(), 2), server.served_at(p + halves, 2))).1;
+    run.check(HALF_A_TICK, late(2 * d + 1) <= 0 && (d == 0 || late(2 * d - 1) > 0), told);
+}
+
 /// A list and a server that may break rules.
-fn law_of_refusals(run: &mut Run, f: &[u64], server: Server) {
+fn law_of_refusals(run: &mut Run, f: &[u64], server: Passed) {
     let [behind, backlog, delay] = [Behind, Backlog, Delay].map(|asked| run.answer(&at_port(asked, f, server)));
     let large = behind.code == u64::from(LARGE) && backlog.code == 0;
     let good = backlog.code == delay.code && (behind.code == backlog.code || large);
-    run.law(REFUSED_ALIKE, good, &[f, &numbers(&[server])]);
+    run.check(REFUSED_ALIKE, good, || format!("{f:?} {server:?}"));
+}
+
+fn law_of_no_delay(run: &mut Run, curve: &[Bucket], server: Server) {
+    let f = curve_list(curve);
+    let joined = [questions::join(server, pure_delay(0)), questions::join(pure_delay(0), server)];
+    let joins = joined.iter().all(|question| run.answer(question).server() == Some(server));
+    let [behind, delay] = [Behind, Delay].map(|asked| run.answer(&at_port(asked, &f, pure_delay(0))));
+    run.law(NO_DELAY, joins && behind.is(&f) && delay.figure() == Some(0), &[&f, &numbers(&[server])]);
 }
 
 /// Demand 3, for two hops in a row that are answered and whose servers join.
 fn laws_of_two_hops(run: &mut Run, curve: &[Bucket], first: Server, second: Server) {
     let f = curve_list(curve);
     let told = [&f[..], &numbers(&[first, second])];
+    let kinds = 2 * usize::from(first.rate().is_none()) + usize::from(second.rate().is_none());
     let hops = |run: &mut Run, first, second| {
         let middle = run.answer(&at_port(Behind, &f, first));
         let after = run.answer(&at_port(Behind, middle.list(), second));
@@ -306,14 +377,14 @@ fn laws_of_two_hops(run: &mut Run, curve: &[Bucket], first: Server, second: Serv
     let joined = run.answer(&questions::join(first, second)).server();
     let (Some(joined), Some((middle, after))) = (joined, hops(run, first, second)) else { return };
     let one = run.answer(&at_port(Behind, &f, joined));
-    run.law(ONE_STEP, one.answered() && one.list() == after.list(), &told);
+    run.law(ONE_STEP[kinds], one.answered() && one.list() == after.list(), &told);
     if let Some((_, turned)) = hops(run, second, first) {
-        run.law(ONE_STEP_TURNED, turned.list() == after.list(), &told);
+        run.law(ONE_STEP_TURNED[kinds], turned.list() == after.list(), &told);
     }
     let mut delay = |curve: &[u64], server| run.answer(&at_port(Delay, curve, server)).figure();
     let (all, at_first, at_second) = (delay(&f, joined), delay(&f, first), delay(middle.list(), second));
     let good = all.zip(at_first).zip(at_second).is_some_and(|((all, first), second)| all <= first + second);
-    run.law(DELAYS_ADDED, good, &told);
+    run.law(DELAYS_ADDED[kinds], good, &told);
 }
 
 /// What the server that is left has served past its latency, with what the cross curve lets come since, is
@@ -322,9 +393,10 @@ fn law_of_residual(run: &mut Run, cross: &[Bucket], server: Server) {
     let list = curve_list(cross);
     let Some(left) = run.answer(&at_port(Residual, &list, server)).server() else { return };
     for later in [0, 1, good_tick(&mut run.rng, cross)] {
-        let tick = left.latency + later;
+        let tick = left.latency() + later;
         let crossed = run.reading(&list, later).expect("a value");
-        let good = left.served(tick) + crossed <= server.served(tick);
+        let both = left.served(tick).map(|served| served + crossed);
+        let good = both.zip(server.served(tick)).is_some_and(|(both, whole)| both <= whole);
         run.law(RESIDUAL_LEAST, good, &[&list, &numbers(&[server]), &[tick]]);
     }
 }
@@ -332,6 +404,7 @@ fn law_of_residual(run: &mut Run, cross: &[Bucket], server: Server) {
 fn laws_of_servers(run: &mut Run, curve: &[Bucket]) {
     let server = bounded_server_for(&mut run.rng, curve);
     laws_of_port(run, curve, server);
+    law_of_no_delay(run, curve, server);
     let [first, second] = [0; 2].map(|_| bounded_server_for(&mut run.rng, curve));
     laws_of_two_hops(run, curve, first, second);
     let beside = server_for(&mut run.rng, curve);
@@ -343,18 +416,46 @@ fn laws_of_servers(run: &mut Run, curve: &[Bucket]) {
 
 // ---- profiles
 
-/// Write, then read: the curve or the server comes back.
+/// Write, then read: the curve or the server comes back, in the edition in which it was written.
 fn law_of_writing(run: &mut Run, curve: &[Bucket]) {
     let list = curve_list(curve);
-    let file = run.answer(&questions::write_curve(&list)).bytes().to_vec();
-    let read = run.answer(&questions::read(&file));
-    let same = read.answered() && read.figures == [CURVE_KIND, curve.len() as u64, 0, 0] && read.list_read() == list;
-    run.law(WRITTEN_READ, same, &[&list]);
+    for &edition in editions_of(CURVE_KIND) {
+        let file = run.answer(&questions::write_curve(edition, &list)).bytes().to_vec();
+        let read = run.answer(&questions::read(&file));
+        let same = read.figures == of_curve_read(edition, curve.len() as u64) && read.list_read() == list;
+        run.law(WRITTEN_READ, read.answered() && same, &[&list, &[edition]]);
+    }
     let server = any_server(&mut run.rng);
-    let file = run.answer(&questions::write_server(server)).bytes().to_vec();
-    let read = run.answer(&questions::read(&file));
-    let same = read.answered() && read.figures == [SERVER_KIND, 0, server.rate, server.latency];
-    run.law(WRITTEN_READ, same, &[&numbers(&[server])]);
+    let passed = Passed::from(server);
+    for &edition in editions_of(passed.kind) {
+        let file = run.answer(&questions::write_server(edition, server)).bytes().to_vec();
+        let read = run.answer(&questions::read(&file));
+        let same = read.answered() && read.figures == of_server_read(edition, passed);
+        run.law(WRITTEN_READ, same, &[&numbers(&[server]), &[edition]]);
+    }
+}
+
+/// The bytes after the first are the same in both editions, and in the first the edition stands alone in the upper half.
+fn law_of_editions(run: &mut Run, curve: &[Bucket]) {
+    let list = curve_list(curve);
+    let server = loop {
+        let server = any_server(&mut run.rng);
+        if server.rate().is_some() {
+            break server;
+        }
+    };
+    let [curves, servers] = [
+        EDITIONS.map(|edition| run.answer(&questions::write_curve(edition, &list))),
+        EDITIONS.map(|edition| run.answer(&questions::write_server(edition, server))),
+    ];
+    for [first, second] in [curves, servers] {
+        let mut file = first.bytes().to_vec();
+        if let Some(header) = file.first_mut() {
+            *header ^= 0x10 ^ 0x20;
+        }
+        let good = first.answered() && second.answered() && file == second.bytes();
+        run.law(EDITIONS_ALIKE, good, &[&list, &numbers(&[server])]);
+    }
 }
 
 /// Read, then write: the bytes come back.
@@ -363,10 +464,10 @@ fn law_of_reading(run: &mut Run, file: &[u8]) {
     if !read.answered() {
         return;
     }
-    let [kind, _, rate, latency] = read.figures;
+    let [edition, kind, _, rate, latency] = read.figures;
     let again = match kind {
-        CURVE_KIND => run.answer(&questions::write_curve(read.list_read())),
-        _ => run.answer(&questions::write_server(server(rate, latency))),
+        CURVE_KIND => run.answer(&questions::write_curve(edition, read.list_read())),
+        _ => run.answer(&questions::write_server(edition, Passed { kind, rate, latency })),
     };
     run.check(READ_WRITTEN, again.answered() && again.bytes() == file, || format!("{file:02x?}"));
 }
@@ -387,7 +488,7 @@ fn text_by_calls(run: &mut Run, curve: &[Bucket], servers: &[Server]) -> String 
             return format!("refused {code} at {}\n", place + 2);
         }
         text += &format!("hop {} {} {}\n", place + 1, calls[0].figures[0], calls[1].figures[0]);
-        joined = Some(calls.get(3).map_or(*server, |told| told.server().expect("a server")));
+        joined = Some(calls.get(3).map_or(Passed::from(*server), Told::passed));
         list = calls[2].list().to_vec();
     }
     let joined = joined.expect("a server");
@@ -395,23 +496,24 @@ fn text_by_calls(run: &mut Run, curve: &[Bucket], servers: &[Server]) -> String 
     text + &format!("route {backlog} {delay}\n")
 }
 
-fn law_of_routes(run: &mut Run, curve: &[Bucket]) {
+fn laws_of_routes(run: &mut Run, curve: &[Bucket]) {
     let count = run.rng.pick(&[1, 2, 3, 5, 8, MOST_SERVERS]);
     let servers = servers_for(&mut run.rng, curve, count);
     let text = text_by_calls(run, curve, &servers);
-    let mut input = curve_file(curve);
-    servers.iter().for_each(|server| input.extend(server_file(*server)));
-    let told = run.answer(&questions::route(&input));
+    let [told, other] = [0; 2].map(|_| {
+        let input = files_of(&mut run.rng, curve, &servers).concat();
+        run.answer(&questions::route(&input))
+    });
     run.check(ROUTE_BY_CALLS, told.answered() && told.bytes() == text.as_bytes(), || format!("{curve:?} {servers:?}"));
+    run.check(ROUTE_EDITIONS, told == other, || format!("{curve:?} {servers:?}"));
 }
 
 /// A long curve, 32 servers and more: whatever follows the first bytes changes nothing.
 fn law_of_deciding_bytes(run: &mut Run, curve: &[Bucket]) {
     let more = 1 + run.rng.place(4);
     let servers = servers_for(&mut run.rng, curve, MOST_SERVERS + more);
-    let mut input = curve_file(curve);
-    servers.iter().for_each(|server| input.extend(server_file(*server)));
-    let (junk, longer) = (bytes(&mut run.rng, 20), 600 + run.rng.place(100));
+    let mut input = files_of(&mut run.rng, curve, &servers).concat();
+    let (junk, longer) = (bytes(&mut run.rng, 20), 650 + run.rng.place(100));
     input.extend(junk);
     input.resize(input.len().max(longer), 0x12);
     let whole = run.answer(&questions::route(&input));
@@ -423,9 +525,12 @@ fn law_of_deciding_bytes(run: &mut Run, curve: &[Bucket]) {
 
 fn laws_of_profiles(run: &mut Run, curve: &[Bucket]) {
     law_of_writing(run, curve);
+    law_of_editions(run, curve);
     let file = some_file(&mut run.rng, curve);
     law_of_reading(run, &file);
     let file = random_under_header(&mut run.rng);
+    law_of_reading(run, &file);
+    let file = file_of_delay(&mut run.rng);
     law_of_reading(run, &file);
 }
 
@@ -444,7 +549,7 @@ pub fn laws(run: &mut Run) {
         laws_of_join(run);
         laws_of_servers(run, &curve);
         laws_of_profiles(run, &curve);
-        law_of_routes(run, &curve);
+        laws_of_routes(run, &curve);
     }
     for _ in 0..LONG {
         let raw = large_list(&mut run.rng);
@@ -458,7 +563,7 @@ pub fn laws(run: &mut Run) {
             laws_of_servers(run, &curve);
         }
         laws_of_profiles(run, &curve);
-        law_of_routes(run, &curve);
+        laws_of_routes(run, &curve);
         law_of_deciding_bytes(run, &curve);
     }
 }

@@ -1,7 +1,7 @@
 //! Lists and buffers as they are lent to the library: each lies between guard words.
 
 use super::library;
-use super::questions::{Figures, Held, Operation, Out, Question, Told};
+use super::questions::{one, Figures, Held, Operation, Out, Question, Told};
 use super::rules::*;
 use std::hint::black_box;
 use Operation::*;
@@ -80,28 +80,28 @@ impl<T: Word> Table<T> {
 }
 
 fn of_answer(told: library::Answer) -> (u64, Figures) {
-    (told.code, [told.count, 0, 0, 0])
+    (told.code, one(told.count))
 }
 
 fn of_figure(told: library::Figure) -> (u64, Figures) {
-    (told.code, [told.figure, 0, 0, 0])
+    (told.code, one(told.figure))
 }
 
 fn of_server(told: library::ServerAnswer) -> (u64, Figures) {
-    (told.code, [told.rate, told.latency, 0, 0])
+    (told.code, [told.kind, told.rate, told.latency, 0, 0])
 }
 
 fn of_written(told: library::Written) -> (u64, Figures) {
-    (told.code, [told.bytes, 0, 0, 0])
+    (told.code, one(told.bytes))
 }
 
 fn of_profile(told: library::Profile) -> (u64, Figures) {
-    (told.code, [told.kind, told.count, told.rate, told.latency])
+    (told.code, [told.edition, told.kind, told.count, told.rate, told.latency])
 }
 
 /// Calls the library, with an output of so many numbers or bytes.
 pub fn ask(question: &Question, room: usize) -> Told {
-    let Question { operation, server, next, tick, link, .. } = question;
+    let Question { operation, server, next, tick, link, edition, .. } = question;
     let (mut f, mut g, mut file) = (Table::with(&question.f), Table::with(&question.g), Table::with(&question.file));
     let kind = operation.out();
     let room_of = |other: Out| if kind == other { room } else { 0 };
@@ -120,8 +120,8 @@ pub fn ask(question: &Question, room: usize) -> Told {
         Delay => of_figure(library::delay(f.list(), *server)),
         Residual => of_server(library::residual(*server, f.list())),
         Read => of_profile(library::read(file.list(), out.list_mut())),
-        WriteCurve => of_written(library::write_curve(f.list(), buffer.list_mut())),
-        WriteServer => of_written(library::write_server(*server, buffer.list_mut())),
+        WriteCurve => of_written(library::write_curve(*edition, f.list(), buffer.list_mut())),
+        WriteServer => of_written(library::write_server(*edition, *server, buffer.list_mut())),
         Route => of_written(library::route(file.list(), buffer.list_mut())),
     };
     // The compiler must not take it as known what the tables hold after the call.

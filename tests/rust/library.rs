@@ -1,6 +1,6 @@
 //! The functions of include/duchrelin.h, each as a safe one.
 
-use super::rules::{Link, Server};
+use super::rules::{Link, Passed};
 use std::mem::{align_of, offset_of, size_of};
 
 #[repr(C)]
@@ -18,6 +18,7 @@ pub struct Figure {
 #[repr(C)]
 pub struct ServerAnswer {
     pub code: u64,
+    pub kind: u64,
     pub rate: u64,
     pub latency: u64,
 }
@@ -25,6 +26,7 @@ pub struct ServerAnswer {
 #[repr(C)]
 pub struct Profile {
     pub code: u64,
+    pub edition: u64,
     pub kind: u64,
     pub count: u64,
     pub rate: u64,
@@ -42,10 +44,10 @@ const _: () = {
     assert!(size_of::<usize>() == 8 && size_of::<*const u64>() == 8 && align_of::<u64>() == 8);
     assert!(size_of::<Answer>() == 16 && offset_of!(Answer, count) == 8);
     assert!(size_of::<Figure>() == 16 && offset_of!(Figure, figure) == 8);
-    assert!(size_of::<ServerAnswer>() == 24 && offset_of!(ServerAnswer, rate) == 8);
-    assert!(offset_of!(ServerAnswer, latency) == 16);
-    assert!(size_of::<Profile>() == 40 && offset_of!(Profile, kind) == 8 && offset_of!(Profile, count) == 16);
-    assert!(offset_of!(Profile, rate) == 24 && offset_of!(Profile, latency) == 32);
+    assert!(size_of::<ServerAnswer>() == 32 && offset_of!(ServerAnswer, kind) == 8);
+    assert!(offset_of!(ServerAnswer, rate) == 16 && offset_of!(ServerAnswer, latency) == 24);
+    assert!(size_of::<Profile>() == 48 && offset_of!(Profile, edition) == 8 && offset_of!(Profile, kind) == 16);
+    assert!(offset_of!(Profile, count) == 24 && offset_of!(Profile, rate) == 32 && offset_of!(Profile, latency) == 40);
     assert!(size_of::<Written>() == 16 && offset_of!(Written, bytes) == 8);
 };
 
@@ -77,21 +79,48 @@ extern "C" {
         out: *mut u64,
         out_numbers: usize,
     ) -> Answer;
-    fn duchrelin_join(rate: u64, latency: u64, next_rate: u64, next_latency: u64) -> ServerAnswer;
+    fn duchrelin_join(
+        kind: u64,
+        rate: u64,
+        latency: u64,
+        next_kind: u64,
+        next_rate: u64,
+        next_latency: u64,
+    ) -> ServerAnswer;
     fn duchrelin_behind(
         curve: *const u64,
         curve_numbers: usize,
+        kind: u64,
         rate: u64,
         latency: u64,
         out: *mut u64,
         out_numbers: usize,
     ) -> Answer;
-    fn duchrelin_backlog(curve: *const u64, curve_numbers: usize, rate: u64, latency: u64) -> Figure;
-    fn duchrelin_delay(curve: *const u64, curve_numbers: usize, rate: u64, latency: u64) -> Figure;
-    fn duchrelin_residual(rate: u64, latency: u64, cross: *const u64, cross_numbers: usize) -> ServerAnswer;
+    fn duchrelin_backlog(curve: *const u64, curve_numbers: usize, kind: u64, rate: u64, latency: u64) -> Figure;
+    fn duchrelin_delay(curve: *const u64, curve_numbers: usize, kind: u64, rate: u64, latency: u64) -> Figure;
+    fn duchrelin_residual(
+        kind: u64,
+        rate: u64,
+        latency: u64,
+        cross: *const u64,
+        cross_numbers: usize,
+    ) -> ServerAnswer;
     fn duchrelin_read(file: *const u8, file_bytes: usize, out: *mut u64, out_numbers: usize) -> Profile;
-    fn duchrelin_write_curve(curve: *const u64, curve_numbers: usize, buffer: *mut u8, buffer_bytes: usize) -> Written;
-    fn duchrelin_write_server(rate: u64, latency: u64, buffer: *mut u8, buffer_bytes: usize) -> Written;
+    fn duchrelin_write_curve(
+        edition: u64,
+        curve: *const u64,
+        curve_numbers: usize,
+        buffer: *mut u8,
+        buffer_bytes: usize,
+    ) -> Written;
+    fn duchrelin_write_server(
+        edition: u64,
+        kind: u64,
+        rate: u64,
+        latency: u64,
+        buffer: *mut u8,
+        buffer_bytes: usize,
+    ) -> Written;
     fn duchrelin_route(input: *const u8, input_bytes: usize, text: *mut u8, text_bytes: usize) -> Written;
 }
 
@@ -125,37 +154,38 @@ pub fn shape(curve: &[u64], link: Link, out: &mut [u64]) -> Answer {
     unsafe { duchrelin_shape(curve.as_ptr(), curve.len(), link.rate, link.frame, to, room) }
 }
 
-pub fn join(server: Server, next: Server) -> ServerAnswer {
-    unsafe { duchrelin_join(server.rate, server.latency, next.rate, next.latency) }
+pub fn join(server: Passed, next: Passed) -> ServerAnswer {
+    unsafe { duchrelin_join(server.kind, server.rate, server.latency, next.kind, next.rate, next.latency) }
 }
 
-pub fn behind(curve: &[u64], server: Server, out: &mut [u64]) -> Answer {
+pub fn behind(curve: &[u64], server: Passed, out: &mut [u64]) -> Answer {
     let (to, room) = (out.as_mut_ptr(), out.len());
-    unsafe { duchrelin_behind(curve.as_ptr(), curve.len(), server.rate, server.latency, to, room) }
+    unsafe { duchrelin_behind(curve.as_ptr(), curve.len(), server.kind, server.rate, server.latency, to, room) }
 }
 
-pub fn backlog(curve: &[u64], server: Server) -> Figure {
-    unsafe { duchrelin_backlog(curve.as_ptr(), curve.len(), server.rate, server.latency) }
+pub fn backlog(curve: &[u64], server: Passed) -> Figure {
+    unsafe { duchrelin_backlog(curve.as_ptr(), curve.len(), server.kind, server.rate, server.latency) }
 }
 
-pub fn delay(curve: &[u64], server: Server) -> Figure {
-    unsafe { duchrelin_delay(curve.as_ptr(), curve.len(), server.rate, server.latency) }
+pub fn delay(curve: &[u64], server: Passed) -> Figure {
+    unsafe { duchrelin_delay(curve.as_ptr(), curve.len(), server.kind, server.rate, server.latency) }
 }
 
-pub fn residual(server: Server, cross: &[u64]) -> ServerAnswer {
-    unsafe { duchrelin_residual(server.rate, server.latency, cross.as_ptr(), cross.len()) }
+pub fn residual(server: Passed, cross: &[u64]) -> ServerAnswer {
+    unsafe { duchrelin_residual(server.kind, server.rate, server.latency, cross.as_ptr(), cross.len()) }
 }
 
 pub fn read(file: &[u8], out: &mut [u64]) -> Profile {
     unsafe { duchrelin_read(file.as_ptr(), file.len(), out.as_mut_ptr(), out.len()) }
 }
 
-pub fn write_curve(curve: &[u64], buffer: &mut [u8]) -> Written {
-    unsafe { duchrelin_write_curve(curve.as_ptr(), curve.len(), buffer.as_mut_ptr(), buffer.len()) }
+pub fn write_curve(edition: u64, curve: &[u64], buffer: &mut [u8]) -> Written {
+    unsafe { duchrelin_write_curve(edition, curve.as_ptr(), curve.len(), buffer.as_mut_ptr(), buffer.len()) }
 }
 
-pub fn write_server(server: Server, buffer: &mut [u8]) -> Written {
-    unsafe { duchrelin_write_server(server.rate, server.latency, buffer.as_mut_ptr(), buffer.len()) }
+pub fn write_server(edition: u64, server: Passed, buffer: &mut [u8]) -> Written {
+    let (to, room) = (buffer.as_mut_ptr(), buffer.len());
+    unsafe { duchrelin_write_server(edition, server.kind, server.rate, server.latency, to, room) }
 }
 
 pub fn route(input: &[u8], text: &mut [u8]) -> Written {

@@ -1,10 +1,10 @@
 //! Questions to the library, one for each call, and what the references say that it must give.
 
 use super::curves::{all_pairs, curve_lines, hull, large_lines, least, raw_lines};
-use super::profiles::{curve_file, parsed, server_file, Profile, CURVE_KIND, SERVER_KIND};
+use super::profiles::{curve_file, edition_lines, parsed, server_file, Content, Profile};
 use super::routes;
 use super::rules::*;
-use super::servers::{self, last_rate, server_lines};
+use super::servers::{self, last_rate, server_lines, shared_lines, unbounded};
 use Operation::*;
 
 #[derive(Clone, Copy, PartialEq, Eq, PartialOrd, Ord, Debug)]
@@ -49,8 +49,8 @@ impl Operation {
             Backlog | Delay => &[0, LIST, COUNT, RANGE, FORM, UNBOUNDED],
             Residual => &[0, LIST, COUNT, RANGE, FORM, UNBOUNDED, LARGE],
             Read => &[0, HEADER, LENGTH, PAD, RANGE, FORM, ROOM],
-            WriteCurve => &[0, LIST, COUNT, RANGE, FORM, ROOM],
-            WriteServer => &[0, RANGE, ROOM],
+            WriteCurve => &[0, HEADER, LIST, COUNT, RANGE, FORM, ROOM],
+            WriteServer => &[0, HEADER, RANGE, ROOM],
             Route => &[0, ROOM],
         }
     }
@@ -60,6 +60,14 @@ impl Operation {
             Normalise | Lower | Sum | Shape | Behind | Read => Out::Numbers,
             WriteCurve | WriteServer | Route => Out::Bytes,
             Value | Burst | Join | Backlog | Delay | Residual => Out::Nothing,
+        }
+    }
+
+    /// The figures beside a refusal. A server has a kind even then.
+    pub fn refused(self) -> Figures {
+        match self {
+            Join | Residual => of_passed(Passed { kind: RATE_LATENCY_KIND, rate: 0, latency: 0 }),
+            _ => one(0),
         }
     }
 }
@@ -74,18 +82,20 @@ pub struct Question {
     /// The file, or the input of a route.
     pub file: Vec<u8>,
     /// The server, and the second one of join.
-    pub server: Server,
-    pub next: Server,
+    pub server: Passed,
+    pub next: Passed,
     /// The tick of value.
     pub tick: u64,
     /// The link of shape.
     pub link: Link,
+    /// The edition of what is written.
+    pub edition: u64,
 }
 
 fn empty(operation: Operation) -> Question {
     let (f, g, file) = (Vec::new(), Vec::new(), Vec::new());
-    let none = Server::default();
-    Question { operation, f, g, file, server: none, next: none, tick: 0, link: Link::default() }
+    let none = Passed::default();
+    Question { operation, f, g, file, server: none, next: none, tick: 0, link: Link::default(), edition: 0 }
 }
 
 pub fn normalise(raw: &[u64]) -> Question {
@@ -109,25 +119,25 @@ pub fn shape(curve: &[u64], link: Link) -> Question {
     Question { f: curve.to_vec(), link, ..empty(Shape) }
 }
 
-pub fn join(server: Server, next: Server) -> Question {
-    Question { server, next, ..empty(Join) }
+pub fn join(server: impl Into<Passed>, next: impl Into<Passed>) -> Question {
+    Question { server: server.into(), next: next.into(), ..empty(Join) }
 }
 
 /// behind, backlog, delay or residual.
-pub fn at_port(operation: Operation, curve: &[u64], server: Server) -> Question {
-    Question { f: curve.to_vec(), server, ..empty(operation) }
+pub fn at_port(operation: Operation, curve: &[u64], server: impl Into<Passed>) -> Question {
+    Question { f: curve.to_vec(), server: server.into(), ..empty(operation) }
 }
 
 pub fn read(file: &[u8]) -> Question {
     Question { file: file.to_vec(), ..empty(Read) }
 }
 
-pub fn write_curve(curve: &[u64]) -> Question {
-    Question { f: curve.to_vec(), ..empty(WriteCurve) }
+pub fn write_curve(edition: u64, curve: &[u64]) -> Question {
+    Question { edition, f: curve.to_vec(), ..empty(WriteCurve) }
 }
 
-pub fn write_server(server: Server) -> Question {
-    Question { server, ..empty(WriteServer) }
+pub fn write_server(edition: u64, server: impl Into<Passed>) -> Question {
+    Question { edition, server: server.into(), ..empty(WriteServer) }
 }
 
 pub fn route(input: &[u8]) -> Question {
@@ -162,10 +172,23 @@ impl Held {
 }
 
 /// The figures behind a code, in the order of the header's struct; 0 where it has fewer.
-pub type Figures = [u64; 4];
+pub type Figures = [u64; 5];
 
-fn one(figure: u64) -> Figures {
-    [figure, 0, 0, 0]
+pub fn one(figure: u64) -> Figures {
+    [figure, 0, 0, 0, 0]
+}
+
+pub fn of_passed(server: Passed) -> Figures {
+    [server.kind, server.rate, server.latency, 0, 0]
+}
+
+/// Of a file that holds a curve of so many buckets.
+pub fn of_curve_read(edition: u64, count: u64) -> Figures {
+    [edition, CURVE_KIND, count, 0, 0]
+}
+
+pub fn of_server_read(edition: u64, server: Passed) -> Figures {
+    [edition, server.kind, 0, server.rate, server.latency]
 }
 
 /// What the library told: the code, the figures, the output, and whether all else stayed.
@@ -196,7 +219,7 @@ impl Told {
 
     /// The numbers of a curve that was read.
     pub fn list_read(&self) -> &[u64] {
-        self.list_of(self.figures[1])
+        self.list_of(self.figures[2])
     }
 
     pub fn is(&self, curve: &[u64]) -> bool {
@@ -214,8 +237,15 @@ impl Told {
         self.answered().then_some(self.figures[0])
     }
 
+    /// The numbers of a server, as they are told.
+    pub fn passed(&self) -> Passed {
+        let [kind, rate, latency, ..] = self.figures;
+        Passed { kind, rate, latency }
+    }
+
+    /// The server of an answered question that has one.
     pub fn server(&self) -> Option<Server> {
-        self.answered().then_some(server(self.figures[0], self.figures[1]))
+        self.passed().server().filter(|_| self.answered())
     }
 }
 
@@ -237,10 +267,10 @@ impl Exact {
         self.operands[0] | self.operands[1] | self.more | line(ROOM, room < self.output.len())
     }
 
-    /// What the library must tell, if the output holds this before.
-    pub fn told(&self, mut out: Held) -> Told {
+    /// What the library must tell of this call, if the output holds this before.
+    pub fn told(&self, operation: Operation, mut out: Held) -> Told {
         let code = winner(self.lines(out.len()));
-        let mut figures = [0; 4];
+        let mut figures = operation.refused();
         if code == 0 {
             out.over(&self.output);
             figures = self.figures;
@@ -250,7 +280,7 @@ impl Exact {
 }
 
 fn nothing(more: u32) -> Exact {
-    Exact { operands: [0; 2], more, figures: [0; 4], output: Held::Nothing, buckets: Vec::new(), refused: None }
+    Exact { operands: [0; 2], more, figures: one(0), output: Held::Nothing, buckets: Vec::new(), refused: None }
 }
 
 fn of_figure(figure: u64) -> Exact {
@@ -264,26 +294,26 @@ fn of_curve(buckets: Vec<Bucket>) -> Exact {
 }
 
 fn of_server(answer: Server) -> Exact {
-    Exact { figures: [answer.rate, answer.latency, 0, 0], ..nothing(line(LARGE, !answer.in_range())) }
+    Exact { figures: of_passed(answer.into()), ..nothing(line(LARGE, !answer.in_range())) }
 }
 
 fn of_bytes(bytes: Vec<u8>) -> Exact {
     Exact { figures: one(bytes.len() as u64), output: Held::Bytes(bytes), ..nothing(0) }
 }
 
-fn of_profile(profile: Profile) -> Exact {
-    match profile {
-        Profile::Curve(curve) => {
+fn of_profile(Profile { edition, content }: Profile) -> Exact {
+    match content {
+        Content::Curve(curve) => {
             let output = Held::Numbers(curve_list(&curve));
-            Exact { figures: [CURVE_KIND, curve.len() as u64, 0, 0], output, buckets: curve, ..nothing(0) }
+            Exact { figures: of_curve_read(edition, curve.len() as u64), output, buckets: curve, ..nothing(0) }
         }
-        Profile::Server(server) => Exact { figures: [SERVER_KIND, 0, server.rate, server.latency], ..nothing(0) },
+        Content::Server(server) => Exact { figures: of_server_read(edition, server.into()), ..nothing(0) },
     }
 }
 
 /// The lines of the operands, first and second as they are passed.
 fn operand_lines(question: &Question) -> [u32; 2] {
-    let Question { operation, f, g, file, server, next, tick, link } = question;
+    let Question { operation, f, g, file, server, next, tick, link, edition } = question;
     match operation {
         Normalise => [raw_lines(f), 0],
         Value => [curve_lines(f), line(RANGE, *tick >= TICK_END)],
@@ -292,17 +322,38 @@ fn operand_lines(question: &Question) -> [u32; 2] {
         Shape => [curve_lines(f), line(RANGE, !link.in_range())],
         Join => [server_lines(*server), server_lines(*next)],
         Behind | Backlog | Delay => [curve_lines(f), server_lines(*server)],
-        Residual => [server_lines(*server), curve_lines(f)],
+        Residual => [shared_lines(*server), curve_lines(f)],
         Read => [parsed(file).0, 0],
-        WriteCurve => [curve_lines(f), 0],
-        WriteServer => [server_lines(*server), 0],
+        WriteCurve => [edition_lines(*edition, CURVE_KIND), curve_lines(f)],
+        WriteServer => [edition_lines(*edition, server.kind), server_lines(*server)],
         Route => [0, 0],
     }
 }
 
+fn good(server: Passed) -> Server {
+    server.server().expect("a server in range")
+}
+
+fn answer_at_port(operation: Operation, f: &[Bucket], server: Server) -> Exact {
+    match operation {
+        _ if unbounded(f, server) => nothing(line(UNBOUNDED, true)),
+        Behind => of_curve(servers::behind(f, server)),
+        Backlog => of_figure(servers::backlog(f, server)),
+        _ => of_figure(servers::delay(f, server)),
+    }
+}
+
+fn answer_beside(f: &[Bucket], server: Server) -> Exact {
+    let rate = server.rate().expect("a rate");
+    if last_rate(f) >= rate {
+        return nothing(line(UNBOUNDED, true));
+    }
+    of_server(servers::residual(rate, server.latency(), f))
+}
+
 /// The answer, the operands being what they should be.
 fn answer(question: &Question) -> Exact {
-    let Question { operation, f: list, g, file, server, next, tick, link } = question;
+    let Question { operation, f: list, g, file, server, next, tick, link, edition } = question;
     let (f, server) = (curve_buckets(list), *server);
     match operation {
         Normalise => of_curve(hull(&raw_buckets(list))),
@@ -312,16 +363,12 @@ fn answer(question: &Question) -> Exact {
         Lower => of_curve(hull(&[f, curve_buckets(g)].concat())),
         Sum => of_curve(hull(&all_pairs(&f, &curve_buckets(g)))),
         Shape => of_curve(hull(&[f, vec![link.bucket()]].concat())),
-        Join => of_server(servers::join(server, *next)),
-        Behind | Backlog | Delay if last_rate(&f) > server.rate => nothing(line(UNBOUNDED, true)),
-        Behind => of_curve(servers::behind(&f, server)),
-        Backlog => of_figure(servers::backlog(&f, server)),
-        Delay => of_figure(servers::delay(&f, server)),
-        Residual if last_rate(&f) >= server.rate => nothing(line(UNBOUNDED, true)),
-        Residual => of_server(servers::residual(server, &f)),
+        Join => of_server(servers::join(good(server), good(*next))),
+        Behind | Backlog | Delay => answer_at_port(*operation, &f, good(server)),
+        Residual => answer_beside(&f, good(server)),
         Read => of_profile(parsed(file).1.expect("a profile")),
-        WriteCurve => of_bytes(curve_file(&f)),
-        WriteServer => of_bytes(server_file(server)),
+        WriteCurve => of_bytes(curve_file(*edition, &f)),
+        WriteServer => of_bytes(server_file(*edition, good(server))),
         Route => {
             let (text, refused) = routes::text(file);
             Exact { refused, ..of_bytes(text) }

@@ -2,18 +2,18 @@
 //! first curve, through the servers before it joined, and not from the hop before.
 
 use super::curves::large_lines;
-use super::profiles::{bytes_required, kind_of, parsed, Profile, CURVE_KIND, SERVER_KIND};
+use super::profiles::{bytes_required, kind_of, parsed, Content};
 use super::rules::*;
-use super::servers::{backlog, behind, delay, join, last_rate};
+use super::servers::{backlog, behind, delay, join, unbounded};
 
-/// The profile of a kind that is due at the start of the rest, and the bytes behind it.
-fn due(kind: u64, rest: &[u8]) -> Result<(Profile, &[u8]), u32> {
-    if kind_of(rest) != kind {
+/// The profile of one of the kinds that are due at the start of the rest, and the bytes behind it.
+fn due<'a>(kinds: &[u64], rest: &'a [u8]) -> Result<(Content, &'a [u8]), u32> {
+    if !kinds.contains(&kind_of(rest)) {
         return Err(HEADER);
     }
     let count = bytes_required(rest).filter(|&count| count <= rest.len()).ok_or(LENGTH)?;
     match parsed(&rest[..count]) {
-        (0, Some(profile)) => Ok((profile, &rest[count..])),
+        (0, Some(profile)) => Ok((profile.content, &rest[count..])),
         (lines, _) => Err(winner(lines)),
     }
 }
@@ -27,9 +27,9 @@ struct Hop<'a> {
 }
 
 fn hop<'a>(first: &[Bucket], curve: &[Bucket], before: Option<Server>, rest: &'a [u8]) -> Result<Hop<'a>, u32> {
-    let (profile, rest) = due(SERVER_KIND, rest)?;
-    let Profile::Server(server) = profile else { unreachable!("a server was due") };
-    if last_rate(curve) > server.rate {
+    let (profile, rest) = due(&[RATE_LATENCY_KIND, PURE_DELAY_KIND], rest)?;
+    let Content::Server(server) = profile else { unreachable!("a server was due") };
+    if unbounded(curve, server) {
         return Err(UNBOUNDED);
     }
     let joined = before.map_or(server, |before| join(before, server));
@@ -45,8 +45,8 @@ fn hop<'a>(first: &[Bucket], curve: &[Bucket], before: Option<Server>, rest: &'a
 
 /// The lines of the report, or which code is told of which profile.
 fn report(input: &[u8]) -> Result<Vec<String>, (u32, usize)> {
-    let (profile, mut rest) = due(CURVE_KIND, input).map_err(|code| (code, 1))?;
-    let Profile::Curve(first) = profile else { unreachable!("a curve was due") };
+    let (profile, mut rest) = due(&[CURVE_KIND], input).map_err(|code| (code, 1))?;
+    let Content::Curve(first) = profile else { unreachable!("a curve was due") };
     let (mut curve, mut before, mut lines) = (first.clone(), None, Vec::new());
     while !rest.is_empty() || before.is_none() {
         let place = lines.len() + 2;

@@ -1,5 +1,5 @@
-//! What the rules fix: the numbers of the refusals, the ranges, and how buckets and servers stand in
-//! lists. One place for each.
+//! What the rules fix: the numbers of the refusals, of kinds and editions, the ranges, and how buckets and
+//! servers stand in lists. One place for each.
 
 pub const HEADER: u32 = 1;
 pub const LENGTH: u32 = 2;
@@ -11,6 +11,14 @@ pub const FORM: u32 = 7;
 pub const UNBOUNDED: u32 = 8;
 pub const LARGE: u32 = 9;
 pub const ROOM: u32 = 10;
+
+/// Kinds of a profile; the last two are those of a server.
+pub const CURVE_KIND: u64 = 1;
+pub const RATE_LATENCY_KIND: u64 = 2;
+pub const PURE_DELAY_KIND: u64 = 3;
+
+/// The editions of a profile's file. A pure delay came with the second.
+pub const EDITIONS: [u64; 2] = [1, 2];
 
 pub const RATE_END: u64 = 1 << 20;
 pub const LATENCY_END: u64 = 1 << 20;
@@ -68,24 +76,87 @@ pub fn curve_list(curve: &[Bucket]) -> Vec<u64> {
     curve.iter().flat_map(|b| [b.rate, b.burst]).collect()
 }
 
+/// A server of one of the two kinds.
+#[derive(Clone, Copy, PartialEq, Eq, Debug)]
+pub enum Server {
+    RateLatency { rate: u64, latency: u64 },
+    PureDelay { latency: u64 },
+}
+
+/// A rate-latency server.
+pub fn server(rate: u64, latency: u64) -> Server {
+    Server::RateLatency { rate, latency }
+}
+
+pub fn pure_delay(latency: u64) -> Server {
+    Server::PureDelay { latency }
+}
+
+impl Server {
+    /// None for a pure delay, which is not limited by any.
+    pub fn rate(&self) -> Option<u64> {
+        match *self {
+            Server::RateLatency { rate, .. } => Some(rate),
+            Server::PureDelay { .. } => None,
+        }
+    }
+
+    pub fn latency(&self) -> u64 {
+        match *self {
+            Server::RateLatency { latency, .. } | Server::PureDelay { latency } => latency,
+        }
+    }
+
+    pub fn with_latency(&self, latency: u64) -> Server {
+        self.rate().map_or(pure_delay(latency), |rate| server(rate, latency))
+    }
+
+    pub fn in_range(&self) -> bool {
+        let good_rate = |rate| (1..RATE_END).contains(&rate);
+        self.rate().map_or(true, good_rate) && self.latency() < LATENCY_END
+    }
+
+    /// What it has served by p/q, times q; None where that is all there is, however much.
+    pub fn served_at(&self, p: u64, q: u64) -> Option<u128> {
+        let past = u128::from(p).saturating_sub(u128::from(self.latency()) * u128::from(q));
+        match self.rate() {
+            Some(rate) => Some(u128::from(rate) * past),
+            None => (past == 0).then_some(0),
+        }
+    }
+
+    /// What it has served by a tick.
+    pub fn served(&self, tick: u64) -> Option<u128> {
+        self.served_at(tick, 1)
+    }
+}
+
+/// A server as it is passed to a call and told by one: three numbers, which may be none.
 #[derive(Clone, Copy, PartialEq, Eq, Debug, Default)]
-pub struct Server {
+pub struct Passed {
+    pub kind: u64,
     pub rate: u64,
     pub latency: u64,
 }
 
-pub fn server(rate: u64, latency: u64) -> Server {
-    Server { rate, latency }
+impl Passed {
+    /// The server that they are, if they are one and it is in range.
+    pub fn server(&self) -> Option<Server> {
+        let found = match *self {
+            Passed { kind: RATE_LATENCY_KIND, rate, latency } => server(rate, latency),
+            Passed { kind: PURE_DELAY_KIND, rate: 0, latency } => pure_delay(latency),
+            _ => return None,
+        };
+        found.in_range().then_some(found)
+    }
 }
 
-impl Server {
-    pub fn in_range(&self) -> bool {
-        (1..RATE_END).contains(&self.rate) && self.latency < LATENCY_END
-    }
-
-    /// What it has served by a tick.
-    pub fn served(&self, tick: u64) -> u128 {
-        u128::from(self.rate) * u128::from(tick.saturating_sub(self.latency))
+impl From<Server> for Passed {
+    fn from(server: Server) -> Passed {
+        match server {
+            Server::RateLatency { rate, latency } => Passed { kind: RATE_LATENCY_KIND, rate, latency },
+            Server::PureDelay { latency } => Passed { kind: PURE_DELAY_KIND, rate: 0, latency },
+        }
     }
 }
 

@@ -1,6 +1,7 @@
 //! The reference for what meets a server. A curve's value minus what is served rises, tick after
 //! tick, up to where it is greatest, and then never again: a curve bends downward only, what is
-//! served upward only. So the tick is found by doubling and halving, without any crossing.
+//! served upward only. So the tick is found by doubling and halving, without any crossing. A pure delay
+//! is searched in the same way: past its latency the difference is below every number.
 
 use super::curves::{hull, least, Edge};
 use super::rules::*;
@@ -48,24 +49,39 @@ pub fn excess(curve: &[Bucket], rate: u64) -> (u64, u64) {
     (tick, whole(most))
 }
 
-pub fn backlog(curve: &[Bucket], server: Server) -> u64 {
-    whole(greatest(|tick| value(curve, tick) - signed(server.served(tick))).1)
+/// What has come minus what is served; below every number where all is served that may come.
+pub fn ahead(come: u128, served: Option<u128>) -> i128 {
+    served.map_or(i128::MIN, |served| signed(come) - signed(served))
 }
 
-pub fn delay(curve: &[Bucket], server: Server) -> u64 {
-    let late = |d: u64| greatest(|tick| value(curve, tick) - signed(server.served(tick + d))).1;
+pub fn backlog(curve: &[Bucket], server: Server) -> u64 {
+    whole(greatest(|tick| ahead(least(curve, tick.into(), 1), server.served(tick))).1)
+}
+
+/// The least d for which, at every p/q, what has come by then is served by (p+d)/q.
+fn least_enough(curve: &[Bucket], server: Server, q: u64) -> u64 {
+    let late = |d: u64| greatest(|p| ahead(least(curve, p.into(), q.into()), server.served_at(p + d, q))).1;
     first(|d| late(d) <= 0)
+}
+
+/// At a pure delay, where it is the number above which all others are enough: in half ticks it is met, or missed by one.
+pub fn delay(curve: &[Bucket], server: Server) -> u64 {
+    match server {
+        Server::RateLatency { .. } => least_enough(curve, server, 1),
+        Server::PureDelay { .. } => least_enough(curve, server, 2) / 2,
+    }
 }
 
 fn later(b: &Bucket, latency: u64) -> Bucket {
     bucket(b.rate, b.burst + b.rate * latency)
 }
 
-/// The raw buckets whose normal form is the curve behind the server.
+/// The raw buckets whose normal form is the curve behind the server. A pure delay is slower than none of them.
 pub fn behind_raw(curve: &[Bucket], server: Server) -> Vec<Bucket> {
-    let slower = curve.iter().filter(|b| b.rate <= server.rate);
-    let own = bucket(server.rate, server.rate * server.latency + excess(curve, server.rate).1);
-    slower.map(|b| later(b, server.latency)).chain([own]).collect()
+    let latency = server.latency();
+    let own = server.rate().map(|rate| bucket(rate, rate * latency + excess(curve, rate).1));
+    let slower = curve.iter().filter(|b| server.rate().map_or(true, |rate| b.rate <= rate));
+    slower.map(|b| later(b, latency)).chain(own).collect()
 }
 
 /// Whether the edge is crossed by a tick.
@@ -74,37 +90,48 @@ fn crossed_by(steeper: Bucket, flatter: Bucket, tick: u64) -> bool {
     u128::from(rise) <= u128::from(tick) * u128::from(fall)
 }
 
+/// Without the first ones that are lowest only up to a tick.
+fn lowest_after(mut curve: &[Bucket], tick: u64) -> &[Bucket] {
+    while let [next, after, ..] = curve {
+        if !crossed_by(*next, *after, tick) {
+            break;
+        }
+        curve = &curve[1..];
+    }
+    curve
+}
+
+/// Without the first ones that the server's own bucket covers together with the one after them.
+fn uncovered(mut curve: &[Bucket], own: Bucket, latency: u64) -> &[Bucket] {
+    if curve[0].rate == own.rate {
+        curve = &curve[1..];
+    }
+    while let [next, after, ..] = curve {
+        let [next, after] = [next, after].map(|b| later(b, latency));
+        if Edge::between(own, next).order(&Edge::between(next, after)).is_lt() {
+            break;
+        }
+        curve = &curve[1..];
+    }
+    curve
+}
+
 /// The curve behind the server in one pass over a curve in normal form whose last rate is not above
 /// the server's. With k the first bucket that is not steeper than the server: where the latency ends
 /// before k crosses the bucket before it, the answer begins with the server's own bucket, and those
 /// fall away that it covers together with the one after them. Else those fall away that are lowest
-/// only up to the latency.
+/// only up to the latency. At a pure delay there is no steeper one, so k is the first of all.
 pub fn behind(curve: &[Bucket], server: Server) -> Vec<Bucket> {
-    let Server { rate, latency } = server;
-    let k = curve.iter().position(|b| b.rate <= rate).expect("a last rate that is not above the server's");
-    let mut rest = &curve[k..];
-    let mut answer = Vec::new();
-    if k > 0 && !crossed_by(curve[k - 1], curve[k], latency) {
-        let own = bucket(rate, rate * latency + excess(curve, rate).1);
-        answer.push(own);
-        rest = if rest[0].rate == rate { &rest[1..] } else { rest };
-        while let [next, after, ..] = rest {
-            let [next, after] = [next, after].map(|b| later(b, latency));
-            if Edge::between(own, next).order(&Edge::between(next, after)).is_lt() {
-                break;
-            }
-            rest = &rest[1..];
-        }
-    } else {
-        while let [next, after, ..] = rest {
-            if !crossed_by(*next, *after, latency) {
-                break;
-            }
-            rest = &rest[1..];
-        }
-    }
-    answer.extend(rest.iter().map(|b| later(b, latency)));
-    answer
+    let latency = server.latency();
+    let not_steeper = |rate: u64| curve.iter().position(|b| b.rate <= rate).expect("a last rate that is not above");
+    let k = server.rate().map_or(0, not_steeper);
+    let own = server.rate().filter(|_| k > 0 && !crossed_by(curve[k - 1], curve[k], latency));
+    let own = own.map(|rate| bucket(rate, rate * latency + excess(curve, rate).1));
+    let rest = match own {
+        Some(own) => uncovered(&curve[k..], own, latency),
+        None => lowest_after(&curve[k..], latency),
+    };
+    own.into_iter().chain(rest.iter().map(|b| later(b, latency))).collect()
 }
 
 /// The same by the definition.
@@ -112,24 +139,36 @@ pub fn behind_by_definition(curve: &[Bucket], server: Server) -> Vec<Bucket> {
     hull(&behind_raw(curve, server))
 }
 
+/// The slowest rate of all that have one, and no rate where none has.
 pub fn join(server: Server, next: Server) -> Server {
-    Server { rate: server.rate.min(next.rate), latency: server.latency + next.latency }
+    let slowest = server.rate().into_iter().chain(next.rate()).min();
+    let latency = server.latency() + next.latency();
+    slowest.map_or(pure_delay(latency), |rate| Server::RateLatency { rate, latency })
 }
 
 /// With the last bucket (r, b) of the cross curve, in whole numbers: b/R rounded up.
-pub fn residual(server: Server, cross: &[Bucket]) -> Server {
+pub fn residual(rate: u64, latency: u64, cross: &[Bucket]) -> Server {
     let last = cross[cross.len() - 1];
-    let rest = last.burst % server.rate;
-    let quotient = (last.burst - rest) / server.rate + u64::from(rest > 0);
-    Server { rate: server.rate - last.rate, latency: server.latency + quotient }
+    let rest = last.burst % rate;
+    let quotient = (last.burst - rest) / rate + u64::from(rest > 0);
+    server(rate - last.rate, latency + quotient)
 }
 
 // ---- lines of the refusal table
 
-pub fn server_lines(server: Server) -> u32 {
-    line(RANGE, !server.in_range())
+pub fn server_lines(server: Passed) -> u32 {
+    line(RANGE, server.server().is_none())
+}
+
+/// A pure delay has no rate of which some could be left.
+pub fn shared_lines(server: Passed) -> u32 {
+    line(RANGE, server.server().and_then(|server| server.rate()).is_none())
 }
 
 pub fn last_rate(curve: &[Bucket]) -> u64 {
     curve[curve.len() - 1].rate
+}
+
+pub fn unbounded(curve: &[Bucket], server: Server) -> bool {
+    server.rate().is_some_and(|rate| last_rate(curve) > rate)
 }

@@ -27,6 +27,10 @@ for circle in root.iter(f"{space}circle"):
 for path in root.iter(f"{space}path"):
     for x, y in re.findall(r"[ML](-?[\d.]+) (-?[\d.]+)", path.get("d")):
         inside(float(x), float(y), "a line")
+    for x in re.findall(r"H(-?[\d.]+)", path.get("d")):
+        inside(float(x), 0, "a horizontal")
+    for y in re.findall(r"V(-?[\d.]+)", path.get("d")):
+        inside(0, float(y), "a vertical")
 if root.tag != f"{space}svg" or len(texts) < 10:
     wrong.append("it is no drawing")
 print("\n".join(wrong), end="\n" if wrong else "")

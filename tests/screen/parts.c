@@ -70,6 +70,36 @@ static int measured(const struct curve *c, struct server s, const struct measure
     return come <= served;
 }
 
+/* Whether a device that only delays is measured where its service steps up: all that has come by then waits; within the delay nothing is
+ * served, after it everything, and the delay starts at tick 0. Only traffic without a bit has no delay but that of the device. */
+static int measured_at_the_step(const struct curve *c, struct server s, const struct measure *m)
+{
+    uint64_t at_once, come, ever, served, later;
+    ask_come(c, 0, &at_once);
+    ask_come(c, s.latency, &come);
+    ask_come(c, LAST_TICK, &ever);
+    ask_served(s, s.latency, &served);
+    ask_served(s, s.latency + 1, &later);
+    if (served != 0 || later < ever || m->full != s.latency || m->full_served != 0 || m->full_come != come || m->backlog != come)
+        return 0;
+    if (ever == 0)
+        return m->delay == 0;
+    return m->delay == s.latency && m->late == 0 && (m->delay == 0 || m->late_come == at_once);
+}
+
+/* Whether what is served stands on the board as a step: on the lowest row up to the latency, there straight up to the top, and nowhere
+ * else. Where another mark covers it, that counts. */
+static int stepped(const struct plot *p)
+{
+    int step = (int)((2 * COLUMNS * p->server.latency + p->ticks.end) / (2 * p->ticks.end)), right = 1;
+    for (int row = 0; row <= ROWS; row++)
+        for (int column = 0; column <= COLUMNS; column++) {
+            int due = column == step || (row == 0 && column < step);
+            right &= due ? p->board[row][column] != BLANK : p->board[row][column] != SERVED_MARK;
+        }
+    return right && p->board[ROWS][step] == SERVED_MARK;
+}
+
 static int label_fits(const struct label *l)
 {
     return l->row >= 0 && l->row <= ROWS && l->column >= 0 && l->column + (int)strlen(l->text) <= COLUMNS + 1;
@@ -88,7 +118,7 @@ static void try_measures(void)
     int answered = 0, right = 1, seen = 1, no_delay = 0, latency_alone = 0, after_latency = 0;
     for (int i = 0; i < 20000; i++) {
         struct curve c = draw_curve();
-        struct server s = {.rate = 1 + draw(12), .latency = draw(8)};
+        struct server s = {.kind = DUCHRELIN_KIND_RATE_LATENCY, .rate = 1 + draw(12), .latency = draw(8)};
         struct plot p;
         if (plot(&c, s, &p) != DUCHRELIN_ANSWERED)
             continue;
@@ -104,13 +134,36 @@ static void try_measures(void)
     expect(answered > 5000 && no_delay > 50 && latency_alone > 50 && after_latency > 500, "the random ports are of every sort");
 }
 
+static void try_delays(void)
+{
+    int answered = 1, right = 1, straight = 1, seen = 1, nothing = 0, at_once = 0, no_burst = 0;
+    for (int i = 0; i < 5000; i++) {
+        struct curve c = draw_curve();
+        struct server s = {.kind = DUCHRELIN_KIND_PURE_DELAY, .latency = draw(8)};
+        struct plot p;
+        answered &= plot(&c, s, &p) == DUCHRELIN_ANSWERED;
+        right &= measured_at_the_step(&c, s, &p.measure);
+        straight &= stepped(&p);
+        seen &= in_sight(&p);
+        nothing += s.latency > 0 && p.measure.delay == 0;
+        at_once += s.latency == 0 && p.measure.backlog > 0;
+        no_burst += p.measure.delay > 0 && p.measure.late_come == 0;
+    }
+    expect(answered, "5000 random devices that only delay: no traffic is too fast for one");
+    expect(right, "5000 random devices that only delay: they are measured where the service steps up");
+    expect(straight, "5000 random devices that only delay: the service is a straight step");
+    expect(seen, "5000 random devices that only delay: measures and labels are in sight");
+    expect(nothing > 5 && at_once > 50 && no_burst > 50, "the random devices that only delay are of every sort");
+}
+
 static void try_limits(void)
 {
     const uint64_t rates = (1 << 20) - 1, bursts = (UINT64_C(1) << 40) - 1;
     const struct curve curves[] = {{1, {0, 0}},          {1, {0, 1}},      {1, {rates, 0}},
                                    {1, {rates, bursts}}, {1, {0, bursts}}, {2, {2, 0, 1, bursts}}};
-    const struct server servers[] = {{1, 0}, {1, 1}, {1, rates}, {rates, 0}, {rates, rates}};
-    int seen = 1, answered = 0;
+    const struct server servers[] = {{2, 1, 0}, {2, 1, 1}, {2, 1, rates}, {2, rates, 0}, {2, rates, rates}, {3, 0, 0}, {3, 0, rates}};
+    size_t answered = 0, steps = 0;
+    int seen = 1;
     for (size_t i = 0; i < sizeof curves / sizeof *curves; i++)
         for (size_t j = 0; j < sizeof servers / sizeof *servers; j++) {
             struct plot p;
@@ -118,8 +171,11 @@ static void try_limits(void)
                 continue;
             answered++;
             seen &= in_sight(&p) && p.measure.full_come == p.measure.full_served + p.measure.backlog;
+            if (only_delays(servers[j]) && measured_at_the_step(&curves[i], servers[j], &p.measure) && stepped(&p))
+                steps++;
         }
-    expect(seen && answered > 15, "the ends of the ranges: measures and labels are in sight");
+    expect(seen && answered - steps > 15, "the ends of the ranges: measures and labels are in sight");
+    expect(steps == 2 * sizeof curves / sizeof *curves, "the ends of the ranges: every device that only delays is a step");
 }
 
 /* ---- axes */
@@ -189,12 +245,16 @@ static void try_words(void)
     expect(named, "each code has its name");
     expect(told, "each code has its sentences");
     expect(strcmp(duchrelin_code_name(UINT64_MAX), "NO CODE") == 0, "a number that is no code is called so");
-    expect(strcmp(duchrelin_kind_name(1), "traffic") == 0 && strcmp(duchrelin_kind_name(2), "port") == 0, "each kind has its word");
+    static const char *const kinds[] = {"no kind", "traffic", "port", "delay", "no kind"};
+    for (uint64_t kind = 0; kind < sizeof kinds / sizeof *kinds; kind++)
+        named &= strcmp(duchrelin_kind_name(kind), kinds[kind]) == 0;
+    expect(named, "each kind has its word");
 }
 
 int main(void)
 {
     try_measures();
+    try_delays();
     try_limits();
     try_axes();
     try_text();

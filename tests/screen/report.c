@@ -17,7 +17,7 @@ static size_t shaped(size_t bytes, uint64_t rate, uint64_t frame)
     duchrelin_profile p = duchrelin_read(input, bytes, curve, DUCHRELIN_CURVE_NUMBERS);
     duchrelin_answer a =
         duchrelin_shape(curve, DUCHRELIN_BUCKET_NUMBERS * p.count, rate, frame, left, DUCHRELIN_CURVE_NUMBERS);
-    return duchrelin_write_curve(left, DUCHRELIN_BUCKET_NUMBERS * a.count, input, sizeof input).bytes;
+    return duchrelin_write_curve(p.edition, left, DUCHRELIN_BUCKET_NUMBERS * a.count, input, sizeof input).bytes;
 }
 
 int main(int argc, char **argv)

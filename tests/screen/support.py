@@ -14,6 +14,7 @@ SHOWN = [
     "route camera-hd hub-100m",
     "route camera-hd hub-100m --link 100 --frame 12304",
     "route camera-hd hub-100m --link 100 --frame 0",
+    "route backup-site trunk-10g fibre-40km trunk-10g",
 ]
 
 

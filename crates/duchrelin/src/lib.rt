@@ -4,14 +4,14 @@ use operations::curves;
 use operations::hops;
 use operations::ports;
 use operations::value;
-use servers::Server;
-ghost use Rattle.meaning.specs.Server.{port};
+ghost use Rattle.meaning.specs.Server.{serverNamed};
 ghost use Rattle.meaning.specs.Refusal.{Outcome};
 ghost use Rattle.meaning.specs.CurveQuestions.{normalising, lowering, summing, shaping, ValueOutcome, BurstOutcome};
-ghost use Rattle.meaning.specs.ServerQuestions.{JoinOutcome, passing, BacklogOutcome, DelayOutcome, ResidualOutcome};
-ghost use Rattle.meaning.specs.Profile.{ReadOutcome, WriteCurveOutcome, WriteServerOutcome};
+ghost use Rattle.meaning.specs.ServerQuestions.{passing, BacklogOutcome, DelayOutcome, JoinNumbers, ResidualNumbers};
+ghost use Rattle.meaning.specs.Profile.{ReadNumbers, WriteCurveOutcome, WriteServerOutcome};
 ghost use Rattle.meaning.specs.Route.{RouteOutcome};
-ghost use Rattle.duchrelin.specs.Contracts.{serverOf, readingOf};
+ghost use Rattle.servers.specs.Contracts.{numbers};
+ghost use Rattle.duchrelin.specs.Contracts.{serverNumbers, profileNumbers};
 
 // A code, 0 for an answer, and the number of buckets, 0 for a refusal.
 #[repr(C)]
@@ -27,18 +27,20 @@ pub struct duchrelin_figure {
     pub figure: u64,
 }
 
-// A code, 0 for an answer, and the server, (0, 0) for a refusal.
+// A code, 0 for an answer, and the server in numbers: kind 2 and zeros for a refusal.
 #[repr(C)]
 pub struct duchrelin_server {
     pub code: u64,
+    pub kind: u64,
     pub rate: u64,
     pub latency: u64,
 }
 
-// A code, 0 for a file that is accepted, its kind, the count of buckets of a curve, and the two numbers of a server.
+// A code, 0 for a file that is accepted, its edition and kind, the count of buckets of a curve, and the rate and latency of a server.
 #[repr(C)]
 pub struct duchrelin_profile {
     pub code: u64,
+    pub edition: u64,
     pub kind: u64,
     pub count: u64,
     pub rate: u64,
@@ -132,21 +134,22 @@ pub extern "C" fn duchrelin_shape(
 // The server that joins the next one.
 #[no_mangle]
 pub extern "C" fn duchrelin_join(
+    kind: u64,
     rate: u64,
     latency: u64,
+    next_kind: u64,
     next_rate: u64,
     next_latency: u64,
 ) -> duchrelin_server
-    ensures { λ r. ⌜ JoinOutcome (port rate latency) (port «next_rate» «next_latency») (r .code) (serverOf r) ⌝ }
+    ensures { λ r. ⌜ JoinNumbers (numbers kind rate latency) (numbers «next_kind» «next_rate» «next_latency») (r .code) (serverNumbers r) ⌝ }
 {
-    let first = Server { rate, latency };
-    let answer = first.join(Server {
-        rate: next_rate,
-        latency: next_latency,
-    });
-    let joined = answer.server;
+    let first = servers::named(kind, rate, latency);
+    let answer = first.join(servers::named(next_kind, next_rate, next_latency));
+    let server = answer.server;
+    let joined = server.numbers();
     duchrelin_server {
         code: answer.code,
+        kind: joined.kind,
         rate: joined.rate,
         latency: joined.latency,
     }
@@ -156,13 +159,14 @@ pub extern "C" fn duchrelin_join(
 #[no_mangle]
 pub extern "C" fn duchrelin_behind(
     curve: &[u64],
+    kind: u64,
     rate: u64,
     latency: u64,
     out: &mut [u64],
 ) -> duchrelin_answer
-    ensures { λ r. ⌜ Outcome (passing (now (curve .entry)) (port rate latency)) (now (out .entry)) (now (out .exit)) (r .code) (r .count) ⌝ }
+    ensures { λ r. ⌜ Outcome (passing (now (curve .entry)) (serverNamed (numbers kind rate latency))) (now (out .entry)) (now (out .exit)) (r .code) (r .count) ⌝ }
 {
-    let answer = hops::behind(curve, Server { rate, latency }, out);
+    let answer = hops::behind(curve, servers::named(kind, rate, latency), out);
     duchrelin_answer {
         code: answer.code,
         count: answer.count,
@@ -171,10 +175,15 @@ pub extern "C" fn duchrelin_behind(
 
 // The most bits that wait at a server.
 #[no_mangle]
-pub extern "C" fn duchrelin_backlog(curve: &[u64], rate: u64, latency: u64) -> duchrelin_figure
-    ensures { λ r. ⌜ BacklogOutcome (now (curve .entry)) (port rate latency) (r .code) (r .figure) ⌝ }
+pub extern "C" fn duchrelin_backlog(
+    curve: &[u64],
+    kind: u64,
+    rate: u64,
+    latency: u64,
+) -> duchrelin_figure
+    ensures { λ r. ⌜ BacklogOutcome (now (curve .entry)) (serverNamed (numbers kind rate latency)) (r .code) (r .figure) ⌝ }
 {
-    let answer = ports::backlog(curve, Server { rate, latency });
+    let answer = ports::backlog(curve, servers::named(kind, rate, latency));
     duchrelin_figure {
         code: answer.code,
         figure: answer.figure,
@@ -183,10 +192,15 @@ pub extern "C" fn duchrelin_backlog(curve: &[u64], rate: u64, latency: u64) -> d
 
 // The ticks within which all is served.
 #[no_mangle]
-pub extern "C" fn duchrelin_delay(curve: &[u64], rate: u64, latency: u64) -> duchrelin_figure
-    ensures { λ r. ⌜ DelayOutcome (now (curve .entry)) (port rate latency) (r .code) (r .figure) ⌝ }
+pub extern "C" fn duchrelin_delay(
+    curve: &[u64],
+    kind: u64,
+    rate: u64,
+    latency: u64,
+) -> duchrelin_figure
+    ensures { λ r. ⌜ DelayOutcome (now (curve .entry)) (serverNamed (numbers kind rate latency)) (r .code) (r .figure) ⌝ }
 {
-    let answer = ports::delay(curve, Server { rate, latency });
+    let answer = ports::delay(curve, servers::named(kind, rate, latency));
     duchrelin_figure {
         code: answer.code,
         figure: answer.figure,
@@ -195,13 +209,20 @@ pub extern "C" fn duchrelin_delay(curve: &[u64], rate: u64, latency: u64) -> duc
 
 // The server that is left beside cross traffic.
 #[no_mangle]
-pub extern "C" fn duchrelin_residual(rate: u64, latency: u64, cross: &[u64]) -> duchrelin_server
-    ensures { λ r. ⌜ ResidualOutcome (now (cross .entry)) (port rate latency) (r .code) (serverOf r) ⌝ }
+pub extern "C" fn duchrelin_residual(
+    kind: u64,
+    rate: u64,
+    latency: u64,
+    cross: &[u64],
+) -> duchrelin_server
+    ensures { λ r. ⌜ ResidualNumbers (now (cross .entry)) (numbers kind rate latency) (r .code) (serverNumbers r) ⌝ }
 {
-    let answer = ports::residual(Server { rate, latency }, cross);
-    let left = answer.server;
+    let answer = ports::residual(servers::named(kind, rate, latency), cross);
+    let server = answer.server;
+    let left = server.numbers();
     duchrelin_server {
         code: answer.code,
+        kind: left.kind,
         rate: left.rate,
         latency: left.latency,
     }
@@ -210,41 +231,49 @@ pub extern "C" fn duchrelin_residual(rate: u64, latency: u64, cross: &[u64]) -> 
 // The one profile that a file holds.
 #[no_mangle]
 pub extern "C" fn duchrelin_read(file: &[u8], out: &mut [u64]) -> duchrelin_profile
-    ensures { λ r. ⌜ ReadOutcome (now (file .entry)) (now (out .entry)) (now (out .exit)) (readingOf r) ⌝ }
+    ensures { λ r. ⌜ ReadNumbers (now (file .entry)) (now (out .entry)) (now (out .exit)) (profileNumbers r) ⌝ }
 {
     let answer = profiles::read(file, out);
     let server = answer.server;
+    let held = server.numbers();
     duchrelin_profile {
         code: answer.code,
+        edition: answer.edition,
         kind: answer.kind,
         count: answer.count,
-        rate: server.rate,
-        latency: server.latency,
+        rate: held.rate,
+        latency: held.latency,
     }
 }
 
-// A curve as a file.
+// A curve as a file of an edition.
 #[no_mangle]
-pub extern "C" fn duchrelin_write_curve(curve: &[u64], buffer: &mut [u8]) -> duchrelin_written
-    ensures { λ r. ⌜ WriteCurveOutcome (now (curve .entry)) (now (buffer .entry)) (now (buffer .exit)) (r .code) (r .bytes) ⌝ }
+pub extern "C" fn duchrelin_write_curve(
+    edition: u64,
+    curve: &[u64],
+    buffer: &mut [u8],
+) -> duchrelin_written
+    ensures { λ r. ⌜ WriteCurveOutcome edition (now (curve .entry)) (now (buffer .entry)) (now (buffer .exit)) (r .code) (r .bytes) ⌝ }
 {
-    let answer = profiles::write_curve(curve, buffer);
+    let answer = profiles::write_curve(edition, curve, buffer);
     duchrelin_written {
         code: answer.code,
         bytes: answer.bytes,
     }
 }
 
-// A server as a file.
+// A server as a file of an edition.
 #[no_mangle]
 pub extern "C" fn duchrelin_write_server(
+    edition: u64,
+    kind: u64,
     rate: u64,
     latency: u64,
     buffer: &mut [u8],
 ) -> duchrelin_written
-    ensures { λ r. ⌜ WriteServerOutcome (port rate latency) (now (buffer .entry)) (now (buffer .exit)) (r .code) (r .bytes) ⌝ }
+    ensures { λ r. ⌜ WriteServerOutcome edition (serverNamed (numbers kind rate latency)) (now (buffer .entry)) (now (buffer .exit)) (r .code) (r .bytes) ⌝ }
 {
-    let answer = profiles::write_server(Server { rate, latency }, buffer);
+    let answer = profiles::write_server(edition, servers::named(kind, rate, latency), buffer);
     duchrelin_written {
         code: answer.code,
         bytes: answer.bytes,

@@ -95,20 +95,20 @@ fn show_curves_in_parts() {
 // The same at a server, and from a file.
 fn show_ports_in_parts() {
     let mut table = [9u64; 10];
-    let passed = behind_in(
-        &[10, 2, 3, 20],
-        Server {
-            rate: 6,
-            latency: 1,
-        },
-        &mut table,
-        3,
-        5,
-    );
+    let passed = behind_in(&[10, 2, 3, 20], servers::rated(6, 1), &mut table, 3, 5);
     show_table(
         b"P5's curve behind (6,1) into a part:",
         passed.code,
         passed.count,
+        &table,
+    );
+
+    let mut table = [9u64; 10];
+    let late = behind_in(&[10, 2, 3, 20], servers::pure_delay(4), &mut table, 3, 5);
+    show_table(
+        b"that curve behind a delay of 4 into a part:",
+        late.code,
+        late.count,
         &table,
     );
 
@@ -144,16 +144,15 @@ fn show_normalised(words: &[u8], raw: &[u64]) {
     show(words, answer, &out);
 }
 
-// Joins a server of rate 1 and the longest latency with one of rate 1, and shows what is answered.
-fn show_joined(words: &[u8], latency: u64) {
-    let longest = Server {
-        rate: 1,
-        latency: 1_048_575,
-    };
-    let answer = longest.join(Server { rate: 1, latency });
-    let joined = answer.server;
+// Joins a server of rate 1 and the longest latency with another one, and shows what is answered.
+fn show_joined(words: &[u8], next: Server) {
+    let longest = servers::rated(1, 1_048_575);
+    let answer = longest.join(next);
+    let server = answer.server;
+    let joined = server.numbers();
     io::write_all(STDOUT_FILENO, words);
     show_number(answer.code);
+    show_number(joined.kind);
     show_number(joined.rate);
     show_number(joined.latency);
     io::write_all(STDOUT_FILENO, b"\n");
@@ -181,6 +180,14 @@ fn main() {
     show_curves_in_parts();
     show_ports_in_parts();
 
-    show_joined(b"join (1,2^20-1) with (1,0):", 0);
-    show_joined(b"join (1,2^20-1) with (1,1):", 1);
+    show_joined(b"join (1,2^20-1) with (1,0):", servers::rated(1, 0));
+    show_joined(b"join (1,2^20-1) with (1,1):", servers::rated(1, 1));
+    show_joined(
+        b"join (1,2^20-1) with a delay of 0:",
+        servers::pure_delay(0),
+    );
+    show_joined(
+        b"join (1,2^20-1) with a delay of 1:",
+        servers::pure_delay(1),
+    );
 }

@@ -1,6 +1,6 @@
 -- Readings of the definitions, for a reader who has other words in mind. Normal form by positions: "every other bucket" is every
--- bucket at another position. A server serves nothing up to its latency, and its rate by the tick from then on. A greatest gap is
--- the greatest of the differences, each 0 where it would be negative. The crossing numbered k is at the time
+-- bucket at another position. A server serves nothing up to its latency, and its rate by the tick from then on, or without limit. A
+-- greatest gap is the greatest of the differences, each 0 where it would be negative. The crossing numbered k is at the time
 -- (b_k - b_{k-1}) / (r_{k-1} - r_k). The byte counts of profile files.
 -- Assumes nothing.
 use mathlib.Core.Path.{_≡_, refl, sym, _∙_, ap}
@@ -11,13 +11,14 @@ use native.Mathlib.Nat.{le-of-lt}
 use native.Mathlib.Omega.{arith}
 use lib.ListN.{length, getD}
 use Rattle.meaning.specs.Curve.{Bucket, _∈_, bucketAt, Falling, Useful, NormalForm, Crossing, reads, numbered}
-use Rattle.meaning.specs.Server.{Server, Instant, served, GreatestGap, Excess, Backlog}
+use Rattle.meaning.specs.Server.{RateLatency, Server, rated, pureDelay, numbersOf, Instant, Amount, upTo, noLimit, _within_, _fill_, _plus_, byRate, served, GreatestGap, Excess, Backlog}
 use Rattle.meaning.specs.Profile.{written, curve}
 use Rattle.meaning.proofs.Order.{le-or-lt, lt-or-eq-or-gt}
 use Rattle.meaning.proofs.Lists.{at-inside, falling-at}
 use Rattle.meaning.proofs.curve.Value.{same-rate}
 use Rattle.meaning.proofs.curve.Neighbours.{meet, meet-at, below-rises}
 use Rattle.meaning.proofs.server.Joining.{served-past}
+use Rattle.meaning.proofs.server.PureDelay.{delay-late, delay-past}
 use Rattle.meaning.proofs.profile.Files.{curve-bytes}
 
 -- ---- Normal form: every other bucket is every bucket at another position.
@@ -124,49 +125,84 @@ normal-by-position f = (to, from)
             let t = position m in
             rw (t .there) (useful-by-position f falls (t .i) (t .inside) .1 (n .useful (t .i) (t .inside)))
 
--- ---- Service: nothing up to the latency, then the rate for each tick.
+-- ---- Service: nothing up to the latency, then the rate for each tick, or without limit.
 
--- up to its latency a server serves 0
-pub served-late : (s : Server) (t : ℕ) → t ≤ s .latency → served s t ≡ 0
-unfolding served
-served-late s t h = let none : t - s .latency ≡ 0 = omega arith in rw none (omega arith)
+-- up to its latency a server serves nothing,
+pub served-late : (s : Server) (t : ℕ) → t ≤ numbersOf s .latency → served s t ≡ upTo 0
+unfolding byRate
+served-late (rated s) t h = let none : t - s .latency ≡ 0 = omega arith in rw none (ap upTo (omega arith))
+served-late (pureDelay latency) t h = delay-late latency h
 
--- and u ticks past it R·u
-pub served-then : (s : Server) (u : ℕ) → served s (s .latency + u) ≡ s .rate * u
-served-then s u = served-past s u refl
+-- a rate-latency server, u ticks past it, R·u,
+pub served-then : (s : RateLatency) (u : ℕ) → served (rated s) (s .latency + u) ≡ upTo (s .rate * u)
+served-then s u = ap upTo (served-past s u refl)
+
+-- and a pure delay, past it, without limit
+pub served-past-delay : (latency t : ℕ) → latency < t → served (pureDelay latency) t ≡ noLimit
+served-past-delay latency t h = delay-past latency h
 
 -- ---- Greatest: the greatest of the differences, each 0 where it would be negative.
 
--- n is the greatest of a(u) - b(u), where a difference is 0 if it would be negative.
-pub record GreatestDifference (a b : Instant → ℕ) (n : ℕ) : Type 0 where
-  pub at : Instant
-  pub reached : n ≡ a at - b at
-  pub greatest : (u : Instant) → a u - b u ≤ n
+infix 60 _less_
+-- So many bits less an amount; less one without limit it is 0.
+abbrev pub _less_ : ℕ → Amount → ℕ
+a less upTo m = a - m
+a less noLimit = 0
 
-module _ {a b : Instant → ℕ} {n : ℕ} where
+-- n is the greatest of a(u) less b(u), where a difference is 0 if it would be negative.
+pub record GreatestDifference (a : Instant → ℕ) (b : Instant → Amount) (n : ℕ) : Type 0 where
+  pub at : Instant
+  pub reached : n ≡ a at less b at
+  pub greatest : (u : Instant) → a u less b u ≤ n
+
+-- what is all of an amount and n bits more is n more than it,
+filled-more : (x : Amount) (a n : ℕ) → a fill (x plus n) → n ≡ a less x
+filled-more (upTo m) a n h = omega arith
+filled-more noLimit a n h = absurd h
+
+-- what is within them is at most n more,
+within-more : (x : Amount) (a n : ℕ) → a within (x plus n) → a less x ≤ n
+within-more (upTo m) a n h = omega arith
+within-more noLimit a n h = omega arith
+
+-- and the other way round
+more-within : (x : Amount) (a n : ℕ) → a less x ≤ n → a within (x plus n)
+more-within (upTo m) a n h = omega arith
+more-within noLimit a n h = tt
+
+more-filled : (x : Amount) (a n : ℕ) → 1 ≤ n → n ≡ a less x → a fill (x plus n)
+more-filled (upTo m) a n some e = omega arith
+more-filled noLimit a n some e = absurd (omega arith)
+
+module _ {a : Instant → ℕ} {b : Instant → Amount} {n : ℕ} where
   -- a greatest gap is the greatest difference,
   pub gap-is-difference : GreatestGap a b n → GreatestDifference a b n
   gap-is-difference g =
-      record { at = g .at; reached = omega (arith, g .reached); greatest = λ u. omega (arith, g .greatest u) }
+      record {
+        at = g .at;
+        reached = filled-more (b (g .at)) (a (g .at)) n (g .reached);
+        greatest = λ u. within-more (b u) (a u) n (g .greatest u);
+      }
 
   -- and the other way round where nothing is taken away at 0
-  pub difference-is-gap : b 0 ≡ 0 → GreatestDifference a b n → GreatestGap a b n
+  pub difference-is-gap : b 0 ≡ upTo 0 → GreatestDifference a b n → GreatestGap a b n
   difference-is-gap none d =
       elim (le-or-lt 1 n) [
-        | inl h ↦ record { at = d .at; reached = omega (arith, d .reached); greatest = every }
-        | inr h ↦ record { at = 0; reached = omega (arith, every 0); greatest = every }
+        | inl h ↦ record { at = d .at; reached = more-filled (b (d .at)) (a (d .at)) n h (d .reached); greatest = every }
+        | inr h ↦ record { at = 0; reached = rw none (omega (arith, rw none at (every 0))); greatest = every }
       ]
     where
-      every : (u : Instant) → a u ≤ b u + n
-      every u = omega (arith, d .greatest u)
+      every : (u : Instant) → a u within (b u plus n)
+      every u = more-within (b u) (a u) n (d .greatest u)
 
 -- the backlog is the greatest difference of what is read and what is served
 pub backlog-is-difference : (f : List Bucket) (s : Server) (n : ℕ) → Backlog f s n ↔ GreatestDifference (reads f) (served s) n
 backlog-is-difference f s n = (gap-is-difference, difference-is-gap (served-late s 0 (omega arith)))
 
 -- and M is the greatest difference of what is read and R·u
-pub excess-is-difference : (f : List Bucket) (rate n : ℕ) → Excess f rate n ↔ GreatestDifference (reads f) (λ u. rate * u) n
-excess-is-difference f rate n = (gap-is-difference, difference-is-gap (omega arith))
+pub excess-is-difference :
+    (f : List Bucket) (rate n : ℕ) → Excess f rate n ↔ GreatestDifference (reads f) (λ u. upTo (rate * u)) n
+excess-is-difference f rate n = (gap-is-difference, difference-is-gap (ap upTo (omega arith)))
 
 -- ---- Crossing: the time at which the two neighbours have one value is (b_k - b_{k-1}) / (r_{k-1} - r_k).
 

@@ -12,3 +12,5 @@ pub mod AtOnce
 pub mod Frames
 pub mod Sums
 pub mod ServerSlips
+pub mod Delayed
+pub mod Numbers

@@ -9,3 +9,4 @@ pub mod Again
 pub mod Refusals
 pub mod Known
 pub mod Slips
+pub mod Editions

@@ -4,5 +4,7 @@ pub mod HopByHop
 pub mod Excess
 pub mod Behind
 pub mod Delay
+pub mod PureDelay
+pub mod BothKinds
 pub mod Sizes
 pub mod Joining

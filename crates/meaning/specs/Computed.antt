@@ -2,11 +2,11 @@
 -- theorem of proofs/ says that it is the meaning that Curve and Server give (docs/LAWS.md lists them).
 -- Assumes nothing.
 use mathlib.Core.Bool.{Bool, true, false, _&&_, cond}
-use mathlib.Core.List.{List, [], _∷_, _++_}
+use mathlib.Core.List.{List, [], _∷_, _++_, map}
 use Prim.Native.Nat.{ℕ, _+_, _-_, _*_, _/_, min, max}
 use lib.Dec.{leb, ltb, eqb}
 use Rattle.meaning.specs.Curve.{Bucket, added, reads}
-use Rattle.meaning.specs.Server.{RateLatency, slower, last}
+use Rattle.meaning.specs.Server.{RateLatency, Server, rated, pureDelay, later, slower, last}
 
 -- The smaller of two codes, where 0 is none.
 unfoldable pub earlier : ℕ → ℕ → ℕ
@@ -141,12 +141,13 @@ excess [] rate = 0
 excess (k ∷ f) rate = cond (leb (k .rate) rate) (k .burst) (excessFrom (k ∷ f) rate k f)
 
 -- The curve behind a server.
-unfoldable pub behind : List Bucket → RateLatency → List Bucket
-unfolding normal excess slower
-behind f s = normal (slower s f ++ record { rate = s .rate; burst = s .rate * s .latency + excess f (s .rate) } ∷ [])
+unfoldable pub behind : List Bucket → Server → List Bucket
+unfolding normal excess slower later
+behind f (rated s) = normal (slower s f ++ record { rate = s .rate; burst = s .rate * s .latency + excess f (s .rate) } ∷ [])
+behind f (pureDelay latency) = normal (map (later latency) f)
 
 -- backlog is the burst of the curve behind.
-unfoldable pub backlog : List Bucket → RateLatency → ℕ
+unfoldable pub backlog : List Bucket → Server → ℕ
 unfolding behind reads
 backlog f s = reads (behind f s) 0
 
@@ -154,12 +155,18 @@ backlog f s = reads (behind f s) 0
 unfoldable pub roundedUp : ℕ → ℕ → ℕ
 roundedUp b r = (b + r - 1) / r
 
--- delay is T + M/R rounded up, and 0 for the curve that carries nothing: by tick 1 nothing has come.
-unfoldable pub delay : List Bucket → RateLatency → ℕ
-unfolding excess roundedUp reads
-delay f s = cond (eqb (reads f 1) 0) 0 (s .latency + roundedUp (excess f (s .rate)) (s .rate))
+-- How long a server holds a curve that carries anything: T + M/R, the quotient rounded up; a pure delay, T.
+unfoldable pub held : List Bucket → Server → ℕ
+unfolding excess roundedUp
+held f (rated s) = s .latency + roundedUp (excess f (s .rate)) (s .rate)
+held f (pureDelay latency) = latency
 
--- The server left beside a cross curve.
+-- delay is that, and 0 for the curve that carries nothing: by tick 1 nothing has come.
+unfoldable pub delay : List Bucket → Server → ℕ
+unfolding held reads
+delay f s = cond (eqb (reads f 1) 0) 0 (held f s)
+
+-- The rate-latency server left beside a cross curve.
 unfoldable pub residual : List Bucket → RateLatency → RateLatency
 unfolding roundedUp last
 residual cross s =

@@ -5,10 +5,10 @@ use mathlib.Core.Path.{_≡_}
 use mathlib.Core.List.{List, [], _∷_, _++_}
 use Prim.Native.Nat.{ℕ, _≤_, _<_}
 use Rattle.meaning.specs.Curve.{Bucket, buckets, listOf, valueAt, reads, value, Burst, NormalOf, Crossing, Sum, linkBucket, Shape}
-use Rattle.meaning.specs.Server.{port, join, Behind, Backlog, Delay, Residual}
+use Rattle.meaning.specs.Server.{pureDelay, port, join, Behind, Backlog, Delay, Residual}
 use Rattle.meaning.specs.Refusal.{PartOutcome}
 use Rattle.meaning.specs.ServerQuestions.{passing, BacklogOutcome, DelayOutcome}
-use Rattle.meaning.specs.Profile.{edition, curve, server, written}
+use Rattle.meaning.specs.Profile.{curve, server, written}
 use Rattle.meaning.specs.Route.{bytes, Route}
 
 -- The curve of most figures.
@@ -59,14 +59,14 @@ pub record Table : Type 0 where
   pub p10 : Residual C (port 6 1) (port 3 5)
   -- a server and a curve as files
   pub p11 :
-      (written edition (server (port 6 1)) ≡ 0x12 ∷ 0x00 ∷ 0x00 ∷ 0x60 ∷ 0x00 ∷ 0x01 ∷ [])
-      × (written edition (curve (buckets (10 ∷ 2 ∷ [])))
+      (written 1 (server (port 6 1)) ≡ 0x12 ∷ 0x00 ∷ 0x00 ∷ 0x60 ∷ 0x00 ∷ 0x01 ∷ [])
+      × (written 1 (curve (buckets (10 ∷ 2 ∷ [])))
       ≡ 0x11 ∷ 0x00 ∷ 0x00 ∷ 0x02 ∷ 0x80 ∷ 0x00 ∷ 0x00 ∷ 0x00 ∷ 0x00 ∷ 0x80 ∷ [])
   -- a route of two hops: all that it prints, and its input as bytes
   pub p12 :
-      Route (written edition (curve C) ++ written edition (server (port 6 4)) ++ written edition (server (port 5 2)))
+      Route (written 1 (curve C) ++ written 1 (server (port 6 4)) ++ written 1 (server (port 5 2)))
       (bytes "hop 1 32 6\nhop 2 38 9\nroute 38 9\n")
-      × (written edition (curve C) ++ written edition (server (port 6 4)) ++ written edition (server (port 5 2))
+      × (written 1 (curve C) ++ written 1 (server (port 6 4)) ++ written 1 (server (port 5 2))
       ≡ 0x11 ∷ 0x04 ∷ 0x00 ∷ 0x02 ∷ 0x80 ∷ 0x00 ∷ 0x00 ∷ 0x00 ∷ 0x00 ∷ 0x80 ∷ 0x00 ∷ 0x0c ∷ 0x00 ∷ 0x00 ∷ 0x00 ∷ 0x00 ∷ 0x50
       ∷ 0x12 ∷ 0x00 ∷ 0x00 ∷ 0x60 ∷ 0x00 ∷ 0x04
       ∷ 0x12 ∷ 0x00 ∷ 0x00 ∷ 0x50 ∷ 0x00 ∷ 0x02 ∷ [])
@@ -85,3 +85,20 @@ pub record Table : Type 0 where
       × Shape (buckets (3 ∷ 20 ∷ [])) (linkBucket 10 2) C
       × Shape C (linkBucket 10 2) C
       × Shape C (linkBucket 10 1) (buckets (10 ∷ 1 ∷ 3 ∷ 20 ∷ []))
+  -- C at a pure delay of 4
+  pub delayed : Behind C (pureDelay 4) (buckets (3 ∷ 32 ∷ [])) × Backlog C (pureDelay 4) 32 × Delay C (pureDelay 4) 4
+  -- the port (6,1) joined with a pure delay of 3, either way round, and two pure delays joined; C through the port and then the delay
+  -- is as late as at the port (6,4)
+  pub joined-delays :
+      (join (port 6 1) (pureDelay 3) ≡ port 6 4)
+      × (join (pureDelay 3) (port 6 1) ≡ port 6 4)
+      × (join (pureDelay 2) (pureDelay 3) ≡ pureDelay 5)
+      × Delay C (join (port 6 1) (pureDelay 3)) 6
+  -- what carries nothing is not delayed, whatever the pure delay
+  pub nothing-delayed : (latency : ℕ) → Delay (buckets (0 ∷ 0 ∷ [])) (pureDelay latency) 0
+  -- a pure delay of 5 as a file of edition 2
+  pub delay-file : written 2 (server (pureDelay 5)) ≡ 0x23 ∷ 0x00 ∷ 0x00 ∷ 0x50 ∷ []
+  -- a route of both kinds and both editions
+  pub mixed :
+      Route (written 2 (curve C) ++ written 1 (server (port 6 1)) ++ written 2 (server (pureDelay 3)))
+      (bytes "hop 1 17 3\nhop 2 32 3\nroute 32 6\n")

@@ -2,14 +2,14 @@
 -- "The profile file".) A bit is the number 0 or 1; a byte is a number below 256.
 -- Assumes nothing.
 use mathlib.Core.Path.{_≡_}
-use mathlib.Core.Bool.{Bool, true, false}
+use mathlib.Core.Bool.{cond}
 use mathlib.Core.Logic.{_⊎_, _≢_}
 use mathlib.Core.List.{List, [], _∷_, _++_, map, List·Memᴰ}
 use Prim.Native.Nat.{ℕ, zero, suc, _+_, _-_, _*_, _/_, _%_, _^_}
 use lib.Dec.{eqb}
 use lib.ListN.{length, take, drop, replicate}
 use Rattle.meaning.specs.Curve.{Bucket, curveOf, NormalForm}
-use Rattle.meaning.specs.Server.{Server, noServer}
+use Rattle.meaning.specs.Server.{Server, rated, pureDelay, port, noServer, rateLatencyKind, pureDelayKind, numbersOf}
 use Rattle.meaning.specs.Refusal.{HEADER, LENGTH, PAD, RANGE, FORM, Lines, _when_, _or_, AllInRange, curveLines, Question, Outcome, PartOutcome, BytesQuestion, BytesOutcome}
 use Rattle.meaning.specs.ServerQuestions.{serverLines}
 
@@ -42,17 +42,9 @@ unfoldable pub bytesOf : ℕ → List ℕ → List ℕ
 bytesOf zero l = []
 bytesOf (suc n) l = spelt (take 8 l) ∷ bytesOf n (drop 8 l)
 
--- The one edition.
-abbrev pub edition : ℕ
-edition = 1
-
--- The kind of a curve,
+-- The kind of a curve. (Those of servers are rateLatencyKind and pureDelayKind.)
 abbrev pub curveKind : ℕ
 curveKind = 1
-
--- and that of a server.
-abbrev pub serverKind : ℕ
-serverKind = 2
 
 -- What a file can hold: a curve or a server.
 pub data Profile : Type 0 where
@@ -62,17 +54,29 @@ pub data Profile : Type 0 where
 -- A profile's kind.
 abbrev pub kindOf : Profile → ℕ
 kindOf (curve f) = curveKind
-kindOf (server s) = serverKind
+kindOf (server s) = numbersOf s .kind
+
+-- An edition has a kind: editions 1 and 2 have curves and rate-latency servers, and edition 2 has pure delays. No other edition or
+-- kind is known.
+abbrev pub Known : ℕ → ℕ → Type 0
+Known ed kind =
+    ((ed ≡ 1) ⊎ (ed ≡ 2)) × ((kind ≡ curveKind) ⊎ (kind ≡ rateLatencyKind) ⊎ ((kind ≡ pureDelayKind) × (ed ≡ 2)))
+
+-- What readers took before edition 2: edition 1, with curves and rate-latency servers.
+abbrev pub KnownBefore : ℕ → ℕ → Type 0
+KnownBefore ed kind = (ed ≡ 1) × ((kind ≡ curveKind) ⊎ (kind ≡ rateLatencyKind))
 
 -- A bucket's two fields, and the next one's.
 unfoldable pub bucketFields : List Bucket → List Field
 bucketFields [] = []
 bucketFields (k ∷ f) = 20 bits k .rate ∷ 40 bits k .burst ∷ bucketFields f
 
--- First 4 bits edition, next 4 bits kind. Curve: 6 bits count minus one; the buckets. Server: 20 bits rate, 20 bits latency.
+-- First 4 bits edition, next 4 bits kind. Curve: 6 bits count minus one; the buckets. Rate-latency server: 20 bits rate, 20 bits
+-- latency. Pure delay: 20 bits latency.
 unfoldable pub fields : ℕ → Profile → List Field
 fields ed (curve f) = 4 bits ed ∷ 4 bits curveKind ∷ 6 bits (length f - 1) ∷ bucketFields f
-fields ed (server s) = 4 bits ed ∷ 4 bits serverKind ∷ 20 bits s .rate ∷ 20 bits s .latency ∷ []
+fields ed (server (rated s)) = 4 bits ed ∷ 4 bits rateLatencyKind ∷ 20 bits s .rate ∷ 20 bits s .latency ∷ []
+fields ed (server (pureDelay latency)) = 4 bits ed ∷ 4 bits pureDelayKind ∷ 20 bits latency ∷ []
 
 -- The bits before padding.
 unfoldable pub profileBits : ℕ → Profile → List ℕ
@@ -105,13 +109,13 @@ editionOf file = field file 0 4
 unfoldable pub kindIn : List ℕ → ℕ
 kindIn file = field file 4 4
 
--- The profile that a file holds: of kind 1 a curve, or else a server. (Any kind but these two is HEADER, whatever is read here.)
+-- The server that a file holds: of kind 3 a pure delay, or else rate-latency.
+unfoldable pub serverHeld : List ℕ → Server
+serverHeld file = cond (eqb (kindIn file) pureDelayKind) (pureDelay (field file 8 20)) (port (field file 8 20) (field file 28 20))
+
+-- The profile that a file holds: of kind 1 a curve, or else a server. (A kind that is not known is HEADER, whatever is read here.)
 unfoldable pub profileOf : List ℕ → Profile
-profileOf file = ofKind (eqb (kindIn file) curveKind)
-  where
-    ofKind : Bool → Profile
-    ofKind true = curve (bucketsIn file 14 (field file 8 6 + 1))
-    ofKind false = server (record { rate = field file 8 20; latency = field file 28 20 })
+profileOf file = cond (eqb (kindIn file) curveKind) (curve (bucketsIn file 14 (field file 8 6 + 1))) (server (serverHeld file))
 
 -- The bytes that the profile at the start of a file takes.
 unfoldable pub bytesTaken : List ℕ → ℕ
@@ -126,13 +130,18 @@ abbrev pub profileLines : Profile → Lines
 profileLines (curve f) = RANGE when (AllInRange f → ⊥) or FORM when (NormalForm f → ⊥)
 profileLines (server s) = serverLines s
 
--- All that can be refused of a file: what it begins with, how long it is, how it is filled up, and the profile in it.
-abbrev pub fileLines : List ℕ → Lines
-fileLines file =
-    HEADER when ((length file ≡ 0) ⊎ (editionOf file ≢ edition) ⊎ ((kindIn file ≢ curveKind) × (kindIn file ≢ serverKind)))
+-- All that can be refused of a file, by a reader that knows these kinds of editions: what it begins with, how long it is, how it is
+-- filled up, and the profile in it.
+abbrev pub linesOf : (ℕ → ℕ → Type 0) → List ℕ → Lines
+linesOf Knows file =
+    HEADER when ((length file ≡ 0) ⊎ (Knows (editionOf file) (kindIn file) → ⊥))
     or LENGTH when ((length file ≢ bytesTaken file) ⊎ ((kindIn file ≡ curveKind) × (length file ≡ 1)))
     or PAD when List·Memᴰ 1 (padding file)
     or profileLines (profileOf file)
+
+-- All that is refused of a file.
+abbrev pub fileLines : List ℕ → Lines
+fileLines = linesOf Known
 
 -- The buckets of a profile: none for a server.
 abbrev pub bucketsOf : Profile → List Bucket
@@ -151,14 +160,17 @@ reading file = record { operands = fileLines file; Answer = λ f. f ≡ bucketsO
 -- What the reader answers beside the list.
 pub record Reading : Type 0 where
   pub code : ℕ
+  pub edition : ℕ
   pub kind : ℕ
   pub count : ℕ
   pub server : Server
 
--- Of an accepted file its kind and server are told, of a refused one neither.
+-- Of an accepted file its edition, kind and server are told, of a refused one none of them.
 pub record Told (file : List ℕ) (x : Reading) : Type 0 where
-  pub accepted : x .code ≡ 0 → (x .kind ≡ kindOf (profileOf file)) × (x .server ≡ serverIn (profileOf file))
-  pub refused : x .code ≢ 0 → (x .kind ≡ 0) × (x .server ≡ noServer)
+  pub accepted :
+      x .code ≡ 0
+      → (x .edition ≡ editionOf file) × (x .kind ≡ kindOf (profileOf file)) × (x .server ≡ serverIn (profileOf file))
+  pub refused : x .code ≢ 0 → (x .edition ≡ 0) × (x .kind ≡ 0) × (x .server ≡ noServer)
 
 -- What comes of reading, with the lent list before and after,
 pub record ReadOutcome (file before after : List ℕ) (x : Reading) : Type 0 where
@@ -170,14 +182,46 @@ pub record ReadPartOutcome (file : List ℕ) (at room : ℕ) (before after : Lis
   pub list : PartOutcome (reading file) at room before after (x .code) (x .count)
   pub told : Told file x
 
--- Writing asks for the file of a profile, whose lines are given.
-unfoldable pub writing : Lines → Profile → BytesQuestion
-writing operands p = record { operands = operands; Answer = λ file. file ≡ written edition p }
+-- What the reader answers, in numbers, as the C call has it.
+pub record ReadingNumbers : Type 0 where
+  pub code : ℕ
+  pub edition : ℕ
+  pub kind : ℕ
+  pub count : ℕ
+  pub rate : ℕ
+  pub latency : ℕ
 
--- A curve written as a file.
-abbrev pub WriteCurveOutcome : List ℕ → List ℕ → List ℕ → ℕ → ℕ → Type 0
-WriteCurveOutcome l = BytesOutcome (writing (curveLines l) (curve (curveOf l)))
+-- The numbers of a reading: the server's rate and latency.
+abbrev pub readingNumbers : Reading → ReadingNumbers
+readingNumbers x =
+    record {
+      code = x .code;
+      edition = x .edition;
+      kind = x .kind;
+      count = x .count;
+      rate = numbersOf (x .server) .rate;
+      latency = numbersOf (x .server) .latency;
+    }
 
--- A server written as a file.
-abbrev pub WriteServerOutcome : Server → List ℕ → List ℕ → ℕ → ℕ → Type 0
-WriteServerOutcome s = BytesOutcome (writing (serverLines s) (server s))
+-- Reading in numbers.
+pub record ReadNumbers (file before after : List ℕ) (answer : ReadingNumbers) : Type 0 where
+  pub reading : Reading
+  pub outcome : ReadOutcome file before after reading
+  pub numbers-are : answer ≡ readingNumbers reading
+
+-- An edition is asked for that has no such kind.
+abbrev pub editionLines : ℕ → ℕ → Lines
+editionLines ed kind = HEADER when (Known ed kind → ⊥)
+
+-- Writing asks for the file of a profile in an edition; the profile's lines are given.
+unfoldable pub writing : ℕ → Lines → Profile → BytesQuestion
+writing ed operands p =
+    record { operands = editionLines ed (kindOf p) or operands; Answer = λ file. file ≡ written ed p }
+
+-- A curve written as a file of an edition.
+abbrev pub WriteCurveOutcome : ℕ → List ℕ → List ℕ → List ℕ → ℕ → ℕ → Type 0
+WriteCurveOutcome ed l = BytesOutcome (writing ed (curveLines l) (curve (curveOf l)))
+
+-- A server written as a file of an edition.
+abbrev pub WriteServerOutcome : ℕ → Server → List ℕ → List ℕ → ℕ → ℕ → Type 0
+WriteServerOutcome ed s = BytesOutcome (writing ed (serverLines s) (server s))

@@ -4,23 +4,33 @@ use mathlib.Core.Path.{_≡_}
 use mathlib.Core.Logic.{_≢_}
 use mathlib.Core.List.{List, []}
 use Prim.Native.Nat.{ℕ, _^_, _≤_, _<_}
-use Rattle.meaning.specs.Curve.{curveOf}
+use Rattle.meaning.specs.Curve.{Bucket, curveOf}
 use Rattle.meaning.specs.Refusal.{RANGE, UNBOUNDED, LARGE, Lines, _when_, _or_, Clear, Refused, curveLines, Question, Outcome, PartOutcome, FigureOutcome}
-use Rattle.meaning.specs.Server.{Server, noServer, join, Behind, Backlog, Delay, Residual, last}
+use Rattle.meaning.specs.Server.{RateLatency, Server, rated, pureDelay, noServer, Numbers, numbersOf, serverNamed, join, Behind, Backlog, Delay, Residual, last}
 
--- A server's ranges: some rate, below 2^20, and a latency below 2^20.
-pub record ServerInRange (s : Server) : Type 0 where
+-- A rate-latency server's ranges: some rate, below 2^20, and a latency below 2^20.
+pub record RatedInRange (s : RateLatency) : Type 0 where
   pub rate-some : 1 ≤ s .rate
   pub rate-fits : s .rate < 2 ^ 20
   pub latency-fits : s .latency < 2 ^ 20
+
+-- A server's ranges: a pure delay has a latency below 2^20.
+abbrev pub ServerInRange : Server → Type 0
+ServerInRange (rated s) = RatedInRange s
+ServerInRange (pureDelay latency) = latency < 2 ^ 20
 
 -- A server: a rate or latency is outside its range.
 abbrev pub serverLines : Server → Lines
 serverLines s = RANGE when (ServerInRange s → ⊥)
 
--- A curve and a server; the last rate above R.
+-- A curve outruns a server: its last rate is above R. A pure delay is never outrun.
+abbrev pub Outruns : List Bucket → Server → Type 0
+Outruns f (rated s) = s .rate < last f .rate
+Outruns f (pureDelay latency) = ⊥
+
+-- A curve and a server; the curve outruns the server.
 abbrev pub portLines : List ℕ → Server → Lines
-portLines f s = curveLines f or serverLines s or UNBOUNDED when (s .rate < last (curveOf f) .rate)
+portLines f s = curveLines f or serverLines s or UNBOUNDED when (Outruns (curveOf f) s)
 
 -- behind: the curve behind a server.
 unfoldable pub passing : List ℕ → Server → Question
@@ -72,8 +82,30 @@ pub data ServerOutcome (operands : Lines) (Answer : Server → Type 0) (code : �
 unfoldable pub JoinOutcome : Server → Server → ℕ → Server → Type 0
 JoinOutcome s next = ServerOutcome (serverLines s or serverLines next) (λ joined. joined ≡ join s next)
 
--- residual: the server left beside a cross curve. It is UNBOUNDED where the last rate is R or more.
+-- A server shared with a cross curve: UNBOUNDED where its last rate is R or more; a pure delay, which has no rate to share, is RANGE.
+abbrev pub sharedLines : List Bucket → Server → Lines
+sharedLines cross (rated s) = UNBOUNDED when (s .rate ≤ last cross .rate)
+sharedLines cross (pureDelay latency) = RANGE when Unit {0}
+
+-- A cross curve and a server.
+abbrev pub crossLines : List ℕ → Server → Lines
+crossLines cross s = curveLines cross or serverLines s or sharedLines (curveOf cross) s
+
+-- residual: the server left beside a cross curve.
 unfoldable pub ResidualOutcome : List ℕ → Server → ℕ → Server → Type 0
-ResidualOutcome cross s =
-    ServerOutcome (curveLines cross or serverLines s or UNBOUNDED when (s .rate ≤ last (curveOf cross) .rate))
-    (Residual (curveOf cross) s)
+ResidualOutcome cross s = ServerOutcome (crossLines cross s) (Residual (curveOf cross) s)
+
+-- ---- A server in numbers, as the C calls have it: what is asked, of the server that the numbers stand for; what comes of it, in the
+-- numbers of the server that is answered.
+
+-- join in numbers.
+pub record JoinNumbers (s next : Numbers) (code : ℕ) (answer : Numbers) : Type 0 where
+  pub joined : Server
+  pub outcome : JoinOutcome (serverNamed s) (serverNamed next) code joined
+  pub numbers-are : answer ≡ numbersOf joined
+
+-- residual in numbers.
+pub record ResidualNumbers (cross : List ℕ) (s : Numbers) (code : ℕ) (answer : Numbers) : Type 0 where
+  pub left : Server
+  pub outcome : ResidualOutcome cross (serverNamed s) code left
+  pub numbers-are : answer ≡ numbersOf left

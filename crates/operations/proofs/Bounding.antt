@@ -19,7 +19,7 @@ use Rattle.meaning.proofs.curve.Value.{same-bucket-at, same-rate, value-least, 
 use Rattle.meaning.proofs.server.Cut.{cutAt, by-line, by-slow, cut-line, cut-slow, cut-reached}
 use Rattle.meaning.proofs.server.Behind.{cut-gap}
 use Rattle.meaning.proofs.server.Joining.{last-inside, last-slowest, rounded-up-is}
-use Rattle.meaning.proofs.server.Delay.{delay-of-nothing, delay-from-excess}
+use Rattle.meaning.proofs.server.Delay.{rated-delay-of-nothing, delay-from-excess}
 use Rattle.meaning.proofs.server.Sizes.{excess-bound}
 use Rattle.checks.specs.Contracts.{Tells}
 use Rattle.operations.specs.Contracts.{bucket, Tested, TestedPort, LeastOf, FirstSlow}
@@ -62,7 +62,7 @@ module _
             ]
 
     least-backlog : Backlog f (port rate latency) (min (rate * latency + m) v)
-    least-backlog = rw (← cut-is) (simp zero-add at (cut-gap f (port rate latency) m e 0 (w .curve .form .some)))
+    least-backlog = rw (← cut-is) (simp zero-add at (cut-gap f (record { rate = rate; latency = latency }) m e 0 (w .curve .form .some)))
 
     -- the line is the lower
     pub backlog-line : rate * latency + m ≤ v → Backlog f (port rate latency) (rate * latency + m)
@@ -177,12 +177,14 @@ module _ {f : List Bucket} {rate latency m : ℕ} (w : TestedPort f rate latency
   module _ {answer : Bool} (t : Tells (reads f 1 ≡ 0) answer) where
     -- the curve carries nothing
     pub delay-none : answer ≡ true → Delay f (port rate latency) 0
-    delay-none told = delay-of-nothing f (port rate latency) (w .curve .form .some) (t .yes-means told)
+    delay-none told = Delay.of-rate (rated-delay-of-nothing f (record { rate = rate; latency = latency }) (t .yes-means told))
 
     -- it carries something
     pub delay-some : {x : ℕ} → answer ≡ false → x ≡ roundedUp m rate → Delay f (port rate latency) (latency + x)
-    delay-some told is =
-        delay-from-excess f (port rate latency) _ e (rw is (rounded-up-is m rate (w .server .rate-some))) (t .no-means told)
+    delay-some {x} told is =
+        Delay.of-rate
+        (delay-from-excess f (record { rate = rate; latency = latency }) x e (rw is (rounded-up-is m rate (w .server .rate-some)))
+        (t .no-means told))
 
   pub delay-fits : {x : ℕ} → x ≡ roundedUp m rate → Fits w64 (latency + x)
   unfolding roundedUp

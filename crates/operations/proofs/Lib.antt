@@ -8,6 +8,8 @@ pub mod Sharing
 pub mod Leaving
 pub mod Lining
 pub mod Passing
+pub mod Delaying
+pub mod Choosing
 pub mod Merging
 pub mod Summing
 pub mod Asking

@@ -8,7 +8,7 @@ use native.Mathlib.Nat.{le-of-lt, mul-le-mul}
 use native.Mathlib.Omega.{arith}
 use lib.ListN.{length}
 use Rattle.meaning.specs.Curve.{Bucket, _∈_, flat, curveOf, NormalOf}
-use Rattle.meaning.specs.Server.{Server, noServer, later, slower, Excess, Behind, Backlog, Delay, port}
+use Rattle.meaning.specs.Server.{RateLatency, Server, noServer, later, slower, Excess, Behind, Backlog, Delay, port}
 use Rattle.meaning.specs.Refusal.{PartOutcome}
 use Rattle.meaning.specs.ServerQuestions.{passing, HopOutcome, HopPartOutcome}
 use Rattle.meaning.proofs.Lists.{at-inside, inside-at}
@@ -17,6 +17,7 @@ use Rattle.meaning.proofs.curve.Value.{same-rate}
 use Rattle.meaning.proofs.curve.Curves.{same-buckets-normal}
 use Rattle.meaning.proofs.server.Cut.{slower-has, slower-from, lineBucket, cutList}
 use Rattle.meaning.proofs.server.Excess.{gap-unique}
+use Rattle.meaning.proofs.server.BothKinds.{behind-rate}
 use Rattle.meaning.proofs.outcome.Outcomes.{refuse-in-part, whole-list}
 use Rattle.meaning.proofs.outcome.Demands.{hop-refused, hop-answered, port-up-to}
 use Rattle.meaning.proofs.outcome.Slips.{refusal-keeps-table}
@@ -36,12 +37,15 @@ module _
     {f : List Bucket} {rate latency first m : ℕ} (w : TestedPort f rate latency) (s : FirstSlow f rate first)
     (e : Excess f rate m)
   where
+    abbrev server : RateLatency
+    server = record { rate = rate; latency = latency }
+
     abbrev raw : List Bucket
     raw = lineAndLater f first rate (rate * latency + m) latency
 
     -- A raw bucket is the line, or a bucket of the curve of rate at most R, a latency later.
     data Raw (k : Bucket) : Type 0 where
-      is-line : k ≡ lineBucket (port rate latency) m → Raw k
+      is-line : k ≡ lineBucket server m → Raw k
       is-later : (j : Bucket) → j ∈ f → j .rate ≤ rate → k ≡ later latency j → Raw k
 
     raw-from : (k : Bucket) → k ∈ raw → Raw k
@@ -60,20 +64,20 @@ module _
         ]
 
     -- so each is one of the definition's,
-    raw-to : (k : Bucket) → k ∈ raw → k ∈ cutList f (port rate latency) m
+    raw-to : (k : Bucket) → k ∈ raw → k ∈ cutList f server m
     raw-to k inside =
         elim (raw-from k inside) [
-          | is-line is ↦ Memᴰ·append-right (slower (port rate latency) f) (List·Memᴰ·head is)
-          | is-later j has slow is ↦ rw is (Memᴰ·append-left _ (slower-has (port rate latency) has slow))
+          | is-line is ↦ Memᴰ·append-right (slower server f) (List·Memᴰ·head is)
+          | is-later j has slow is ↦ rw is (Memᴰ·append-left _ (slower-has server has slow))
         ]
 
     -- and each of the definition's is one of them
-    raw-back : (k : Bucket) → k ∈ cutList f (port rate latency) m → k ∈ raw
+    raw-back : (k : Bucket) → k ∈ cutList f server m → k ∈ raw
     unfolding lineAndLater
     raw-back k inside =
-        elim (List·Memᴰ·append-cases (slower (port rate latency) f) inside) [
+        elim (List·Memᴰ·append-cases (slower server f) inside) [
           | inl slowed ↦
-              let r = slower-from (port rate latency) f slowed in
+              let r = slower-from server f slowed in
               let at = inside-at f nowhere (r .inside) in
               elim (le-or-lt first (at .0)) [
                 | inl late ↦ later-inside k (at .0) late (at .1) (r .is-later ∙ ap (later latency) (at .2))
@@ -120,11 +124,13 @@ module _
 
     -- the normal form of the raw buckets is the curve behind,
     raw-behind : (g : List Bucket) → NormalOf raw g → Behind f (port rate latency) g
-    raw-behind g n = record { m = m; excess = e; normal = same-buckets-normal raw-to raw-back n }
+    raw-behind g n = Behind.of-rate (record { m = m; excess = e; normal = same-buckets-normal raw-to raw-back n })
 
     -- and no other is
     behind-raw : (g : List Bucket) → Behind f (port rate latency) g → NormalOf raw g
-    behind-raw g b = same-buckets-normal raw-back raw-to (rw (gap-unique (b .excess) e) at (b .normal))
+    behind-raw g b =
+        let known = behind-rate b in
+        same-buckets-normal raw-back raw-to (rw (gap-unique (known .excess) e) at (known .normal))
 
 -- ---- Behind.
 
@@ -178,11 +184,11 @@ module _ {f : List ℕ} {rate latency checked first m : ℕ} (p : Opened f rate 
 
       -- or it is handed over, with the figures
       pub hop-in-answered :
-          {backlog delay : ℕ} → code ≡ 0 → Backlog (curveOf f) (port rate latency) backlog
-          → Delay (curveOf f) (port rate latency) delay
-          → HopPartOutcome f (port rate latency) at room before after 0 count backlog delay (port rate latency)
-      hop-in-answered right b d =
-          record { curve = rw right at passed-in; figures = hop-answered f (port rate latency) refl b d }
+          {backlog delay : ℕ} {through : Server} → code ≡ 0 → Backlog (curveOf f) (port rate latency) backlog
+          → Delay (curveOf f) (port rate latency) delay → through ≡ port rate latency
+          → HopPartOutcome f (port rate latency) at room before after 0 count backlog delay through
+      hop-in-answered right b d same =
+          rw same (record { curve = rw right at passed-in; figures = hop-answered f (port rate latency) refl b d })
 
 pub ruleset hopping = (hop-in-refused, hop-in-large, hop-in-answered)
 

@@ -1,4 +1,4 @@
-// Backlog and delay of a curve at a server, neither of them refused, from M, the greatest of reads(s) - R·s.
+// Backlog and delay of a curve at a rate-latency server, neither of them refused, from M, the greatest of reads(s) - R·s.
 use crate::lowest::least_from;
 use crate::refusals::last_bucket;
 ghost use mathlib.Core.Path.{_≡_};
@@ -35,7 +35,7 @@ pub(crate) fn rounded_up(a: u64, b: u64) -> u64
 }
 
 // Whether a curve carries nothing by tick 1, and so by no tick. In normal form its last bucket is then (0, 0).
-fn carries_nothing(curve: &[u64]) -> bool
+pub(crate) fn carries_nothing(curve: &[u64]) -> bool
     requires { ⌜ Tested (curveOf (now curve)) ⌝ }
     ensures { λ r. ⌜ Tells (reads (curveOf (now (curve .entry))) 1 ≡ 0) r ⌝ }
 {

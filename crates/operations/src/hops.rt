@@ -1,23 +1,16 @@
 // A curve passed through a server: the curve behind, into a lent list or into a part of a larger table, with backlog and delay there.
-use crate::bounds::backlog_of;
-use crate::bounds::delay_of;
-use crate::gather;
-use crate::opening::open;
+use crate::delayed;
+use crate::rated;
+use servers::Kind;
 use servers::Server;
 use settle::Answer;
-use settle::settle;
-ghost use mathlib.Core.Path.{_≡_};
-ghost use Prim.Native.Nat.{_+_, _*_};
-ghost use Rattle.meaning.specs.Curve.{flat, curveOf};
-ghost use Rattle.meaning.specs.Server.{Excess};
 ghost use Rattle.meaning.specs.Refusal.{Outcome, PartOutcome};
 ghost use Rattle.meaning.specs.ServerQuestions.{passing, HopOutcome, HopPartOutcome};
 ghost use Rattle.servers.specs.Contracts.{serverOf};
-ghost use Rattle.settle.specs.Contracts.{settling};
-ghost use Rattle.operations.specs.Contracts.{TestedPort, FirstSlow, lineAndLater, NoHop};
+ghost use Rattle.operations.specs.Contracts.{NoHop};
 
 // A hop of a route: a code, 0 for an answer; the number of buckets of the curve behind, backlog and delay, each 0 for a refusal; and
-// the server passed, (0, 0) for a refusal.
+// the server passed, rate-latency (0, 0) for a refusal.
 pub struct Hop {
     pub code: u64,
     pub count: u64,
@@ -27,7 +20,7 @@ pub struct Hop {
 }
 
 // A hop that is refused.
-fn refused(code: u64) -> Hop
+pub(crate) fn refused(code: u64) -> Hop
     ensures { λ r. ⌜ NoHop code r ⌝ }
 {
     Hop {
@@ -35,58 +28,20 @@ fn refused(code: u64) -> Hop
         count: 0,
         backlog: 0,
         delay: 0,
-        server: Server {
-            rate: 0,
-            latency: 0,
-        },
+        server: servers::rated(0, 0),
     }
 }
 
-// (R, R·T + M), and the buckets from `first` on, each read T ticks later, in normal form.
-fn settled(
-    curve: &[u64],
-    rate: u64,
-    latency: u64,
-    first: usize,
-    ahead: u64,
-    table: &mut [u64],
-    at: usize,
-    room: usize,
-) -> Answer
-    requires { ⌜ TestedPort (curveOf (now curve)) rate latency ⌝ }
-    requires { ⌜ FirstSlow (curveOf (now curve)) rate first ⌝ }
-    requires { ⌜ Excess (curveOf (now curve)) rate ahead ⌝ }
-    ensures { λ r. ⌜ PartOutcome (settling (flat (lineAndLater (curveOf (now (curve .entry))) first rate (rate * latency + ahead) latency))) at room (now (table .entry)) (now (table .exit)) (r .code) (r .count) ⌝ }
-{
-    let mut raw = [0u64; 130];
-    let burst = rate * latency + ahead;
-    let end = gather::line_and_later(curve, first, rate, burst, latency, &mut raw);
-    settle(&raw[..end], table, at, room)
-}
-
-// A hop: the curve that leaves the server, with backlog and delay; tested once, and M worked out once.
+// A hop: the curve that leaves the server, with backlog and delay.
 pub fn pass_in(curve: &[u64], server: Server, table: &mut [u64], at: usize, room: usize) -> Hop
     ensures { λ r. ⌜ HopPartOutcome (now (curve .entry)) (serverOf server) at room (now (table .entry)) (now (table .exit)) (r .code) (r .count) (r .backlog) (r .delay) (serverOf (r .server)) ⌝ }
 {
-    let port = open(curve, server);
-    let code = port.code;
-    if code != 0 {
-        return refused(code);
-    }
-    let rate = server.rate;
-    let latency = server.latency;
-    let first = port.first;
-    let ahead = port.ahead;
-    let answer = settled(curve, rate, latency, first, ahead, table, at, room);
-    if answer.code != 0 {
-        return refused(answer.code);
-    }
-    Hop {
-        code: 0,
-        count: answer.count,
-        backlog: backlog_of(curve, rate, latency, first, ahead),
-        delay: delay_of(curve, rate, latency, ahead),
-        server,
+    let kind = server.kind;
+    match kind {
+        Kind::RateLatency { rate, latency } => {
+            rated::pass_in(curve, rate, latency, table, at, room)
+        }
+        Kind::PureDelay { latency } => delayed::pass_in(curve, latency, table, at, room),
     }
 }
 

@@ -1,8 +1,7 @@
-// What the answers about a curve at a server share: it is tested once, and M is worked out once.
+// What the answers about a curve at a rate-latency server share: it is tested once, and M is worked out once.
 use crate::excess::excess;
 use crate::excess::first_slow;
 use crate::refusals;
-use servers::Server;
 ghost use Rattle.operations.specs.Contracts.{Opened};
 
 // The refusal of a curve at a server, or 0; and where it is 0, the first bucket of rate at most the server's, and M.
@@ -13,10 +12,10 @@ pub(crate) struct Port {
 }
 
 // Tests a curve at a server and, where no line refuses them, works M out.
-pub(crate) fn open(curve: &[u64], server: Server) -> Port
-    ensures { λ r. ⌜ Opened (now (curve .entry)) (server .rate) (server .latency) (r .code) (r .first) (r .ahead) ⌝ }
+pub(crate) fn open(curve: &[u64], rate: u64, latency: u64) -> Port
+    ensures { λ r. ⌜ Opened (now (curve .entry)) rate latency (r .code) (r .first) (r .ahead) ⌝ }
 {
-    let code = refusals::port(curve, server);
+    let code = refusals::at_rate(curve, rate, latency);
     if code != 0 {
         return Port {
             code,
@@ -24,7 +23,6 @@ pub(crate) fn open(curve: &[u64], server: Server) -> Port
             ahead: 0,
         };
     }
-    let rate = server.rate;
     let first = first_slow(curve, rate);
     Port {
         code: 0,

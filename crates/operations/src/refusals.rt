@@ -1,15 +1,12 @@
 // The refusals of a curve with a server. Where the curve and the server are taken, its last rate is held against the server's.
 use checks::Bucket;
 use checks::limits;
-use servers::Server;
 ghost use mathlib.Core.Path.{_≡_};
-ghost use Prim.Native.Nat.{_≤_};
 ghost use Rattle.meaning.specs.Curve.{curveOf};
-ghost use Rattle.meaning.specs.Server.{last};
-ghost use Rattle.meaning.specs.Refusal.{UNBOUNDED, _when_, _or_, Verdict, curveLines};
-ghost use Rattle.meaning.specs.ServerQuestions.{serverLines, portLines};
+ghost use Rattle.meaning.specs.Server.{pureDelay, port, last};
+ghost use Rattle.meaning.specs.Refusal.{_or_, Verdict, curveLines};
+ghost use Rattle.meaning.specs.ServerQuestions.{serverLines, portLines, crossLines};
 ghost use Rattle.checks.specs.Contracts.{bucketOf};
-ghost use Rattle.servers.specs.Contracts.{serverOf};
 
 // The last bucket of a curve's list; (0, 0) where there is none.
 pub(crate) fn last_bucket(curve: &[u64]) -> Bucket
@@ -22,39 +19,46 @@ pub(crate) fn last_bucket(curve: &[u64]) -> Bucket
     checks::bucket_at(curve, count - 1)
 }
 
-// The refusal of a curve and of a server, or 0.
-fn curve_and_server(curve: &[u64], server: Server) -> u64
-    ensures { λ r. ⌜ Verdict (curveLines (now (curve .entry)) or serverLines (serverOf server)) r ⌝ }
+// The refusal of a curve and of a rate-latency server, or 0.
+fn curve_and_rate(curve: &[u64], rate: u64, latency: u64) -> u64
+    ensures { λ r. ⌜ Verdict (curveLines (now (curve .entry)) or serverLines (port rate latency)) r ⌝ }
 {
-    checks::earlier(checks::curve(curve), server.refusal())
+    checks::earlier(checks::curve(curve), servers::rated_refusal(rate, latency))
 }
 
-// The refusal of a curve at a server, or 0: UNBOUNDED where its last rate is above the server's.
-pub(crate) fn port(curve: &[u64], server: Server) -> u64
-    ensures { λ r. ⌜ Verdict (portLines (now (curve .entry)) (serverOf server)) r ⌝ }
+// The refusal of a curve at a rate-latency server, or 0: UNBOUNDED where its last rate is above the server's.
+pub(crate) fn at_rate(curve: &[u64], rate: u64, latency: u64) -> u64
+    ensures { λ r. ⌜ Verdict (portLines (now (curve .entry)) (port rate latency)) r ⌝ }
 {
-    let code = curve_and_server(curve, server);
+    let code = curve_and_rate(curve, rate, latency);
     if code != 0 {
         return code;
     }
     let last = last_bucket(curve);
-    if server.rate < last.rate {
+    if rate < last.rate {
         return limits::UNBOUNDED;
     }
     0
 }
 
-// The refusal of a cross curve beside which a server is to have something left, or 0: UNBOUNDED where its last rate is the server's
-// or above.
-pub(crate) fn cross(curve: &[u64], server: Server) -> u64
-    ensures { λ r. ⌜ Verdict (curveLines (now (curve .entry)) or serverLines (serverOf server) or UNBOUNDED when (server .rate ≤ last (curveOf (now (curve .entry))) .rate)) r ⌝ }
+// The refusal of a curve at a pure delay, or 0. It is never UNBOUNDED.
+pub(crate) fn at_delay(curve: &[u64], latency: u64) -> u64
+    ensures { λ r. ⌜ Verdict (portLines (now (curve .entry)) (pureDelay latency)) r ⌝ }
 {
-    let code = curve_and_server(curve, server);
+    checks::earlier(checks::curve(curve), servers::delay_refusal(latency))
+}
+
+// The refusal of a cross curve beside which a rate-latency server is to have something left, or 0: UNBOUNDED where its last rate is
+// the server's or above.
+pub(crate) fn cross(curve: &[u64], rate: u64, latency: u64) -> u64
+    ensures { λ r. ⌜ Verdict (crossLines (now (curve .entry)) (port rate latency)) r ⌝ }
+{
+    let code = curve_and_rate(curve, rate, latency);
     if code != 0 {
         return code;
     }
     let last = last_bucket(curve);
-    if server.rate <= last.rate {
+    if rate <= last.rate {
         return limits::UNBOUNDED;
     }
     0

@@ -1,25 +1,25 @@
 -- What a file must have before its profile is looked at: header, byte count and padding, refused in the order of their numbers.
 -- Assumes nothing.
-use mathlib.Core.Path.{_≡_, refl, sym, _∙_, ap}
+use mathlib.Core.Path.{_≡_, refl, sym, _∙_}
 use mathlib.Core.Bool.{Bool, true, false, not}
-use mathlib.Core.Logic.{_⊎_, inl, inr, _≢_}
+use mathlib.Core.Logic.{inl, inr}
 use mathlib.Core.List.{List}
 use Prim.Native.Nat.{ℕ, _+_, _-_, _*_, _/_, _≤_}
 use native.Mathlib.Omega.{arith}
 use lib.Dec.{eqb, lit≤}
-use lib.ListN.{length, drop-of-length-le}
+use lib.ListN.{length}
 use borrow.Author.Tests.{eqb-true, eqb-false, not-true, not-false}
 use mir.Syntax.{w64}
 use mir.Val.{Fits}
 use Rattle.meaning.specs.Refusal.{Verdict}
-use Rattle.meaning.specs.Profile.{spelt, fileBits, curveKind, serverKind, field, bucketsIn, profileBits, editionOf, kindIn, profileOf, bytesTaken, padding, fileLines}
-use Rattle.meaning.proofs.profile.Bits.{one-spelt, spelt-one, length-file-bits}
-use Rattle.meaning.proofs.profile.Files.{curve-bits, server-bits, length-buckets-in, held-curve, held-server, server-taken, binary-padding, padding-field}
+use Rattle.meaning.specs.Profile.{spelt, Known, field, editionOf, kindIn, bytesTaken, padding, fileLines}
+use Rattle.meaning.proofs.profile.Bits.{one-spelt, spelt-one}
+use Rattle.meaning.proofs.profile.Files.{binary-padding, padding-field}
 use Rattle.meaning.proofs.profile.RoundTrip.{RightHeader}
 use Rattle.meaning.proofs.profile.Refusals.{header-wrong, length-wrong, pad-wrong}
 use Rattle.checks.specs.Contracts.{Tells}
-use Rattle.profiles.specs.Contracts.{InFile, countIn, Counts, Whole, Framed, Tested}
-use Rattle.profiles.proofs.Header.{taken-by-curve}
+use Rattle.profiles.specs.Contracts.{InFile, BitsTaken, Whole, Framed, Tested}
+use Rattle.profiles.proofs.Header.{taken-bytes}
 
 -- a test finds a refusal,
 found-wrong : (file : List ℕ) {P : Type 0} {code : ℕ} → 1 ≤ code → Verdict (fileLines file) code → Tested file P code
@@ -36,97 +36,50 @@ module _ {file : List ℕ} where
   pub header-empty : length file ≡ 0 → Tested file (RightHeader file) 1
   header-empty h = found-wrong file (lit≤ tt) (header-wrong file (inl h))
 
-  module _ (some : length file ≡ 0 → ⊥) where
-    -- the edition lies in the file
-    pub edition-inside : InFile file 0 4
-    edition-inside = record { inside = omega (arith, some); near = lit≤ tt; narrow = lit≤ tt }
+  module _ {ed kind : ℕ} (e : ed ≡ editionOf file) (k : kind ≡ kindIn file) {answer : Bool} (t : Tells (Known ed kind) answer) where
+    -- the edition has no such kind,
+    pub header-unknown : not answer ≡ true → Tested file (RightHeader file) 1
+    header-unknown n =
+        found-wrong file (lit≤ tt) (header-wrong file (inr (λ known. t .no-means (not-true answer n) (rw (e, k) known))))
 
-    module _ {ed : ℕ} (e : ed ≡ field file 0 4) where
-      -- the edition is another
-      pub header-edition : (ed ≡ 1 → ⊥) → Tested file (RightHeader file) 1
-      unfolding editionOf
-      header-edition other = found-wrong file (lit≤ tt) (header-wrong file (inr (inl (λ h. other (e ∙ h)))))
+    -- or has it
+    pub header-known : (length file ≡ 0 → ⊥) → not answer ≡ false → Tested file (RightHeader file) 0
+    header-known some n =
+        found-right file
+        (record { filled = omega (arith, some); known = rw (← e, ← k) (t .yes-means (not-false answer n)) })
 
-      module _ (same : ed ≡ 1) {kind : ℕ} (k : kind ≡ kindIn file) where
-        -- the header is right where the kind is one of the two
-        known : (kindIn file ≡ curveKind) ⊎ (kindIn file ≡ serverKind) → Tested file (RightHeader file) 0
-        unfolding editionOf
-        known is = found-right file (record { filled = omega (arith, some); first = sym e ∙ same; kind = is })
-
-        -- it is a curve,
-        pub header-curve : kind ≡ 1 → Tested file (RightHeader file) 0
-        header-curve is = known (inl (sym k ∙ is))
-
-        module _ (no-curve : kind ≡ 1 → ⊥) where
-          -- a server,
-          pub header-server : kind ≡ 2 → Tested file (RightHeader file) 0
-          header-server is = known (inr (sym k ∙ is))
-
-          -- or neither
-          pub header-neither : (kind ≡ 2 → ⊥) → Tested file (RightHeader file) 1
-          header-neither no-server =
-              found-wrong file (lit≤ tt)
-              (header-wrong file (inr (inr (λ h. no-curve (k ∙ h), λ h. no-server (k ∙ h)))))
-
-pub ruleset heads = (header-empty, edition-inside, header-edition, header-curve, header-server, header-neither)
+pub ruleset heads = (header-empty, header-unknown, header-known)
 
 -- ---- The padding of a file of the byte count required.
 
-module _ {file : List ℕ} (whole : Whole file) {kind : ℕ} (k : kind ≡ kindIn file) where
-  -- a server's has none
-  pub no-padding : (kind ≡ 1 → ⊥) → 0 ≡ spelt (padding file)
-  unfolding padding spelt
-  no-padding other =
-      let apart : kindIn file ≢ curveKind = λ h. other (k ∙ h) in
-      let bits : length (profileBits (editionOf file) (profileOf file)) ≡ 48 = rw (held-server file apart) (server-bits (editionOf file) _) in
-      sym
-      (ap spelt
-      (drop-of-length-le (fileBits file) {i = length (profileBits (editionOf file) (profileOf file))}
-      (omega (arith, length-file-bits file, whole .is, server-taken file apart))))
+module _ {file : List ℕ} (whole : Whole file) {end : ℕ} (bits : BitsTaken file end) where
+  -- the file has the bytes that its bits require
+  size : length file ≡ (end + 7) / 8
+  size = whole .is ∙ sym (taken-bytes file bits)
 
-  module _ (is : kind ≡ 1) {n : ℕ} (count : Counts file n) where
-    -- the file has the bytes that the count requires
-    size : length file ≡ (60 * n + 21) / 8
-    size = whole .is ∙ sym (taken-by-curve file k is count)
+  -- so its bits are few,
+  pub padding-end-fits : Fits w64 (8 * length file)
+  padding-end-fits = record { fits = omega (arith, bits .few, size) }
 
-    -- so the bits of the buckets are few,
-    pub padding-bits-fit : Fits w64 (60 * n)
-    padding-bits-fit = record { fits = omega (arith, count .few) }
+  -- the padding begins inside the file, or at its end,
+  pub padding-some : end ≤ 8 * length file
+  padding-some = omega (arith, size)
 
-    -- those before the padding too,
-    pub padding-start-fits : Fits w64 (14 + 60 * n)
-    padding-start-fits = record { fits = omega (arith, count .few) }
+  -- and is a field of it
+  pub padding-inside : InFile file end (8 * length file - end)
+  padding-inside =
+      record {
+        inside = omega (arith, padding-some);
+        near = omega (arith, bits .few);
+        narrow = omega (arith, size);
+      }
 
-    -- and those of the file;
-    pub padding-end-fits : Fits w64 (8 * length file)
-    padding-end-fits = record { fits = omega (arith, count .few, size) }
+  -- the bits behind the profile's
+  pub padding-read : {x : ℕ} → x ≡ field file end (8 * length file - end) → x ≡ spelt (padding file)
+  unfolding bytesTaken
+  padding-read e = e ∙ rw (whole .is, bits .is) (padding-field file (whole .is))
 
-    -- the padding begins inside the file,
-    pub padding-some : 14 + 60 * n ≤ 8 * length file
-    padding-some = omega (arith, size)
-
-    -- and is a field of it
-    pub padding-inside : InFile file (14 + 60 * n) (8 * length file - (14 + 60 * n))
-    padding-inside =
-        record {
-          inside = omega (arith, padding-some);
-          near = omega (arith, count .few);
-          narrow = omega (arith, size);
-        }
-
-    -- the bits behind a curve's
-    pub padding-read : {x : ℕ} → x ≡ field file (14 + 60 * n) (8 * length file - (14 + 60 * n)) → x ≡ spelt (padding file)
-    unfolding countIn bytesTaken
-    padding-read e = e ∙ rw (whole .is, ← bits) (padding-field file (whole .is))
-      where
-        bits : length (profileBits (editionOf file) (profileOf file)) ≡ 14 + 60 * n
-        bits =
-            rw (held-curve file (sym k ∙ is))
-            (curve-bits (editionOf file) (bucketsIn file 14 (field file 8 6 + 1))
-            ∙ omega (arith, length-buckets-in file 14 (field file 8 6 + 1), count .is))
-
-pub ruleset pads =
-    (no-padding, padding-bits-fit, padding-start-fits, padding-end-fits, padding-some, padding-inside, padding-read)
+pub ruleset pads = (padding-end-fits, padding-some, padding-inside, padding-read)
 
 -- ---- The three together.
 

@@ -1,23 +1,30 @@
 -- Bytes handed over to a lent buffer: the answer to a question of their own, and to that of the profile whose file they are.
 -- Assumes nothing.
 use mathlib.Core.Path.{_≡_, refl, sym, _∙_}
+use mathlib.Core.Bool.{Bool, true, false, not}
 use mathlib.Core.Logic.{inl, inr}
 use mathlib.Core.List.{List}
-use Prim.Native.Nat.{ℕ, _≤_, _<_}
+use Prim.Native.Nat.{ℕ, _^_, _≤_, _<_}
 use native.Mathlib.Omega.{arith}
-use lib.ListN.{length}
+use lib.Dec.{lit≤}
+use lib.ListN.{length, take}
+use borrow.Author.Tests.{not-true, not-false}
 use Rattle.meaning.specs.Curve.{curveOf}
-use Rattle.meaning.specs.Refusal.{Refusal, Clear, Verdict, curveLines, over, BytesQuestion, bytesLines, BytesOutcome}
+use Rattle.meaning.specs.Server.{Server, Numbers, numbersOf}
+use Rattle.meaning.specs.Refusal.{Refusal, Lines, Clear, Verdict, curveLines, over, BytesQuestion, bytesLines, BytesOutcome}
 use Rattle.meaning.specs.ServerQuestions.{serverLines}
-use Rattle.meaning.specs.Profile.{curve, server, written, writing, WriteCurveOutcome, WriteServerOutcome}
-use Rattle.meaning.proofs.outcome.Outcomes.{Single, Same}
+use Rattle.meaning.specs.Profile.{Profile, curve, server, kindOf, Known, written, writing, WriteCurveOutcome, WriteServerOutcome}
+use Rattle.meaning.proofs.outcome.Outcomes.{Single, Same, UpTo}
 use Rattle.meaning.proofs.outcome.Answers.{curve-up-to}
 use Rattle.meaning.proofs.outcome.Demands.{server-up-to}
 use Rattle.meaning.proofs.outcome.Bytes.{one-bytes, refuse-bytes, no-room-bytes, filled-bytes}
+use Rattle.meaning.proofs.profile.Refusals.{edition-code, operand-code, write-up-to}
+use Rattle.meaning.proofs.profile.RoundTrip.{edition-fits}
+use Rattle.checks.specs.Contracts.{Tells}
 use Rattle.checks.proofs.Checks.{passed, curve-ranged, curve-some, curve-few}
+use Rattle.servers.specs.Contracts as of-servers
 use Rattle.servers.proofs.Joins.{server-ranged}
-use Rattle.meaning.specs.Server.{port}
-use Rattle.profiles.specs.Contracts.{PackableServer, serverBytes, PackableCurve, curveBytes, handing}
+use Rattle.profiles.specs.Contracts.{PackableServer, serverBytes, PackableCurve, curveBytes, Packed, handing}
 
 -- ---- Bytes as they are.
 
@@ -86,57 +93,103 @@ module _ (ask : BytesQuestion) {bytes : List ℕ} (clear : Clear (ask .operands)
         written = v .written;
       })
 
+-- ---- A profile written in an edition.
+
+module _ (ed : ℕ) (operands : Lines) (p : Profile) (upto : UpTo 8 operands) {answer : Bool} (t : Tells (Known ed (kindOf p)) answer) where
+  -- the edition has no such kind,
+  edition-refused : {before : List ℕ} → not answer ≡ true → BytesOutcome (writing ed operands p) before before 1 0
+  edition-refused n =
+      refuse-bytes (writing ed operands p) _ (write-up-to ed operands p upto) (lit≤ tt)
+      (edition-code ed operands p (t .no-means (not-true answer n)))
+
+  module _ (n : not answer ≡ false) {code : ℕ} (v : Verdict operands code) where
+    -- or has it: then the operand decides
+    operand-decides : Verdict (writing ed operands p .operands) code
+    operand-decides = operand-code ed operands p (t .yes-means (not-false answer n)) v
+
+    -- it is refused,
+    operand-refused : {before : List ℕ} → (code ≡ 0 → ⊥) → BytesOutcome (writing ed operands p) before before code 0
+    operand-refused some =
+        refuse-bytes (writing ed operands p) _ (write-up-to ed operands p upto) (omega (arith, some)) operand-decides
+
+    -- or its file is handed over
+    operand-handed :
+        code ≡ 0 → {file before after : List ℕ} {count told : ℕ} → file ≡ written ed p
+        → BytesOutcome (handing file) before after told count → BytesOutcome (writing ed operands p) before after told count
+    unfolding writing
+    operand-handed right e o = handed-answer (writing ed operands p) (passed operand-decides right) e (λ f g a b. a ∙ sym b) o
+
 -- ---- A curve.
 
-module _ (l : List ℕ) {code : ℕ} (v : Verdict (curveLines l) code) where
-  -- it is refused
-  pub write-curve-refused : {before : List ℕ} → (code ≡ 0 → ⊥) → WriteCurveOutcome l before before code 0
-  unfolding writing
-  write-curve-refused some =
-      refuse-bytes (writing (curveLines l) (curve (curveOf l))) _ (λ r h. omega (arith, curve-up-to l r h)) (omega (arith, some)) v
+module _ {ed : ℕ} (l : List ℕ) {answer : Bool} (t : Tells (Known ed 1) answer) where
+  -- the edition has no curves
+  pub write-curve-header : {before : List ℕ} → not answer ≡ true → WriteCurveOutcome ed l before before 1 0
+  write-curve-header n = edition-refused ed (curveLines l) (curve (curveOf l)) (curve-up-to l) t n
 
-  module _ (right : code ≡ 0) where
-    -- it can be packed
-    pub write-packable : {bytes : List ℕ} → length bytes ≡ 482 → PackableCurve l bytes
-    write-packable room =
-        record {
-          ranged = curve-ranged l (passed v right);
-          some = curve-some l (passed v right);
-          few = curve-few l (passed v right);
-          room = room;
-        }
+  module _ (n : not answer ≡ false) where
+    -- it fits its field
+    pub write-curve-early : ed < 2 ^ 4
+    write-curve-early = edition-fits (t .yes-means (not-false answer n))
 
-    -- and handed over
-    pub write-curve-handed :
-        {file before after : List ℕ} {count told : ℕ} → file ≡ curveBytes l
-        → BytesOutcome (handing file) before after told count → WriteCurveOutcome l before after told count
-    unfolding writing curveBytes
-    write-curve-handed e o =
-        handed-answer (writing (curveLines l) (curve (curveOf l))) (passed v right) e (λ f g a b. a ∙ sym b) o
+    module _ {code : ℕ} (v : Verdict (curveLines l) code) where
+      -- the curve is refused
+      pub write-curve-refused : {before : List ℕ} → (code ≡ 0 → ⊥) → WriteCurveOutcome ed l before before code 0
+      write-curve-refused some = operand-refused ed (curveLines l) (curve (curveOf l)) (curve-up-to l) t n v some
 
-pub ruleset curve-writes = (write-curve-refused, write-packable, write-curve-handed)
+      -- or handed over
+      pub write-curve-handed :
+          code ≡ 0 → {bytes before after : List ℕ} {size count told : ℕ} → Packed (curveBytes ed l) bytes size
+          → BytesOutcome (handing (take size bytes)) before after told count → WriteCurveOutcome ed l before after told count
+      unfolding curveBytes
+      write-curve-handed right w o =
+          operand-handed ed (curveLines l) (curve (curveOf l)) (curve-up-to l) t n v right (w .is) o
+
+-- it can be packed
+pub write-packable :
+    (l : List ℕ) {code : ℕ} → Verdict (curveLines l) code → code ≡ 0 → {bytes : List ℕ} → length bytes ≡ 482 → PackableCurve l bytes
+write-packable l v right room =
+    record {
+      ranged = curve-ranged l (passed v right);
+      some = curve-some l (passed v right);
+      few = curve-few l (passed v right);
+      room = room;
+    }
+
+pub ruleset curve-writes =
+    (write-curve-header, write-curve-early, write-curve-refused, write-packable, write-curve-handed)
 
 -- ---- A server.
 
-module _ {rate latency code : ℕ} (v : Verdict (serverLines (port rate latency)) code) where
-  -- it is refused
-  pub write-server-refused : {before : List ℕ} → (code ≡ 0 → ⊥) → WriteServerOutcome (port rate latency) before before code 0
-  unfolding writing
-  write-server-refused some =
-      refuse-bytes (writing (serverLines (port rate latency)) (server (port rate latency))) _
-      (λ r h. omega (arith, server-up-to (port rate latency) r h)) (omega (arith, some)) v
+module _ {ed : ℕ} (s : Server) {k : Numbers} (e : k ≡ numbersOf s) {answer : Bool} (t : Tells (Known ed (k .kind)) answer) where
+  -- the answer is for the server's kind
+  of-server : Tells (Known ed (kindOf (server s))) answer
+  of-server = rw e at t
 
-  module _ (right : code ≡ 0) where
-    -- it can be packed
-    pub write-server-packable : {bytes : List ℕ} → length bytes ≡ 482 → PackableServer (port rate latency) bytes
-    write-server-packable room = record { ranged = server-ranged (passed v right); room = room }
+  -- the edition has no such kind
+  pub write-server-header : {before : List ℕ} → not answer ≡ true → WriteServerOutcome ed s before before 1 0
+  write-server-header n = edition-refused ed (serverLines s) (server s) (server-up-to s) of-server n
 
-    -- and handed over
-    pub write-server-handed :
-        {file before after : List ℕ} {count told : ℕ} → file ≡ serverBytes (port rate latency)
-        → BytesOutcome (handing file) before after told count → WriteServerOutcome (port rate latency) before after told count
-    unfolding writing serverBytes
-    write-server-handed e o =
-        handed-answer (writing (serverLines (port rate latency)) (server (port rate latency))) (passed v right) e (λ f g a b. a ∙ sym b) o
+  module _ (n : not answer ≡ false) {code : ℕ} (v : of-servers.Tested s code) where
+    -- the server is refused
+    pub write-server-refused : {before : List ℕ} → (code ≡ 0 → ⊥) → WriteServerOutcome ed s before before code 0
+    write-server-refused some = operand-refused ed (serverLines s) (server s) (server-up-to s) of-server n (v .verdict) some
 
-pub ruleset server-writes = (write-server-refused, write-server-packable, write-server-handed)
+    module _ (right : code ≡ 0) where
+      -- it can be packed
+      pub write-server-packable : {bytes : List ℕ} → length bytes ≡ 6 → PackableServer ed s bytes
+      write-server-packable room =
+          record {
+            early = edition-fits (of-server .yes-means (not-false answer n));
+            ranged = server-ranged s (passed (v .verdict) right);
+            room = room;
+          }
+
+      -- and handed over
+      pub write-server-handed :
+          {bytes before after : List ℕ} {size count told : ℕ} → Packed (serverBytes ed s) bytes size
+          → BytesOutcome (handing (take size bytes)) before after told count → WriteServerOutcome ed s before after told count
+      unfolding serverBytes
+      write-server-handed w o =
+          operand-handed ed (serverLines s) (server s) (server-up-to s) of-server n (v .verdict) right (w .is) o
+
+pub ruleset server-writes = (write-server-header, write-server-refused, write-server-packable, write-server-handed)

@@ -1,6 +1,5 @@
 -- Profiles packed field after field: the bytes are the profile's file.
 -- Assumes nothing.
-use Rattle.meaning.specs.Server.{port}
 use mathlib.Core.Path.{_≡_, refl, sym, _∙_, ap, ap₂}
 use mathlib.Core.List.{List, [], _∷_, _++_, append-assoc, append-nil}
 use Prim.Native.Nat.{ℕ, zero, suc, _+_, _-_, _*_, _/_, _%_, _^_, _≤_, _<_}
@@ -12,14 +11,18 @@ use lib.ListN.{length, take, replicate}
 use lib.Seq.{take-all, take-suc, length-take-le}
 use lib.Pow.{pow-pos}
 use Rattle.meaning.specs.Curve.{Bucket, curveOf}
+use Rattle.meaning.specs.Server.{pureDelay, port}
 use Rattle.meaning.specs.Refusal.{InRange, AllInRange}
-use Rattle.meaning.specs.Profile.{bitsOf, packed, fileBits, bytesOf, edition, Profile, curve, server, bucketFields, fields, profileBits, byteCount, written}
+use Rattle.meaning.specs.Profile.{bitsOf, packed, fileBits, bytesOf, Profile, curve, server, bucketFields, fields, profileBits, byteCount, written}
 use Rattle.meaning.proofs.Lists.{at-inside}
 use Rattle.meaning.proofs.profile.Bits.{bytes-of-file}
 use Rattle.meaning.proofs.profile.Files.{curve-bits, server-bits}
 use Rattle.checks.specs.Contracts.{bucketOf, nth}
 use Rattle.checks.specs.declared.Bucket as held-bucket
-use Rattle.profiles.specs.Contracts.{packedBits, AreBytes, Fitting, FittingTwo, Appends, PackableServer, serverBytes, PackableCurve, HeadRoom, headBits, bucketBits, bitCount, curveBytes, PackedCurve}
+use Rattle.servers.specs.declared.Kind.{Kind}
+use Rattle.servers.specs.declared.Kind.the-variants.{RateLatency, PureDelay}
+use Rattle.servers.specs.Contracts.{ofKind}
+use Rattle.profiles.specs.Contracts.{packedBits, AreBytes, Fitting, FittingTwo, Appends, PackableServer, serverBytes, PackableCurve, HeadRoom, headBits, bucketBits, bitCount, curveBytes, Packed}
 
 -- ---- Bits behind bits.
 
@@ -69,19 +72,19 @@ zero-bits (suc w) = cc (zero-div (2 ^ w), zero-bits w)
 
 -- a profile's bits, then zero bits up to the byte's end, are its file
 packed-file :
-    (p : Profile) (n padding : ℕ) {before bits after : List ℕ} {to rest : ℕ} → n ≤ length before → to ≡ 8 * n
-    → to ≡ length (profileBits edition p) + padding → padding < 8
-    → Appends before 0 0 bits after to rest → bits ≡ profileBits edition p ++ bitsOf padding 0 → take n after ≡ written edition p
+    (ed : ℕ) (p : Profile) (n padding : ℕ) {before bits after : List ℕ} {to rest : ℕ} → n ≤ length before → to ≡ 8 * n
+    → to ≡ length (profileBits ed p) + padding → padding < 8
+    → Appends before 0 0 bits after to rest → bits ≡ profileBits ed p ++ bitsOf padding 0 → take n after ≡ written ed p
 unfolding written byteCount
-packed-file p n padding room e size few w is =
+packed-file ed p n padding room e size few w is =
     whole-bytes n room e w
-    ∙ ap (bytesOf n) (is ∙ ap (λ (l : List ℕ). profileBits edition p ++ l) (zero-bits padding))
+    ∙ ap (bytesOf n) (is ∙ ap (λ (l : List ℕ). profileBits ed p ++ l) (zero-bits padding))
     ∙ cc (count, behind)
   where
-    count : (length (profileBits edition p) + 7) / 8 ≡ n
+    count : (length (profileBits ed p) + 7) / 8 ≡ n
     count = omega arith
 
-    behind : 8 * n - length (profileBits edition p) ≡ padding
+    behind : 8 * n - length (profileBits ed p) ≡ padding
     behind = omega arith
 
 -- ---- Two fields.
@@ -120,26 +123,64 @@ pub ruleset two-packs = (first-fitting, second-fitting, two-packed)
 
 -- ---- A server.
 
-module _ {rate latency : ℕ} {before : List ℕ} (p : PackableServer (port rate latency) before) where
-  -- edition and kind, rate and latency are its file
-  pub server-packed :
-      {b after : List ℕ} {l n : ℕ} → Appends before 0 0 (bitsOf 4 1 ++ bitsOf 4 2) b 8 l
-      → Appends b 8 l (bitsOf 20 rate ++ bitsOf 20 latency) after 48 n
-      → take 6 after ≡ serverBytes (port rate latency)
+module _ {ed : ℕ} {before b after : List ℕ} {left rest : ℕ} where
+  -- edition and kind, rate and latency are the file of a rate-latency server,
+  pub rated-packed :
+      {rate latency : ℕ} → PackableServer ed (port rate latency) before → Appends before 0 0 (bitsOf 4 ed ++ bitsOf 4 2) b 8 left
+      → Appends b 8 left (bitsOf 20 rate ++ bitsOf 20 latency) after 48 rest → Packed (serverBytes ed (port rate latency)) after 6
   unfolding serverBytes profileBits fields packed bitsOf
-  server-packed v w =
-      packed-file (server (port rate latency)) 6 0 (omega (arith, p .room)) refl (sym (rw (server-bits edition (port rate latency)) refl)) (lit≤ tt)
-      (appends-both v w) (cc)
+  rated-packed {rate} {latency} p v w =
+      record {
+        is =
+            packed-file ed (server (port rate latency)) 6 0 (omega (arith, p .room)) refl
+            (omega (arith, server-bits ed (port rate latency))) (lit≤ tt) (appends-both v w) (cc);
+        few = omega (arith, v .long, w .long, p .room);
+      }
 
-pub ruleset server-packs = (server-packed)
+  -- and edition and kind, latency and four zero bits that of a pure delay
+  pub delay-packed :
+      {latency : ℕ} → PackableServer ed (pureDelay latency) before → Appends before 0 0 (bitsOf 4 ed ++ bitsOf 4 3) b 8 left
+      → Appends b 8 left (bitsOf 20 latency ++ bitsOf 4 0) after 32 rest → Packed (serverBytes ed (pureDelay latency)) after 4
+  unfolding serverBytes profileBits fields packed bitsOf
+  delay-packed {latency} p v w =
+      record {
+        is =
+            packed-file ed (server (pureDelay latency)) 4 4 (omega (arith, p .room)) refl
+            (omega (arith, server-bits ed (pureDelay latency))) (lit≤ tt) (appends-both v w) (cc);
+        few = omega (arith, v .long, w .long, p .room);
+      }
+
+pub ruleset server-packs = (rated-packed, delay-packed)
+
+-- of either kind a server can be packed where its numbers can,
+module _ {ed : ℕ} {k : Kind} {bytes : List ℕ} (p : PackableServer ed (ofKind k) bytes) {latency : ℕ} where
+  pub rated-packable : {rate : ℕ} → k ≡ RateLatency rate latency → PackableServer ed (port rate latency) bytes
+  rated-packable e = rw e at p
+
+  pub delay-packable : k ≡ PureDelay latency → PackableServer ed (pureDelay latency) bytes
+  delay-packable e = rw e at p
+
+-- and is packed where they are
+module _ (ed : ℕ) {k : Kind} {latency : ℕ} {bytes : List ℕ} {count : ℕ} where
+  pub kind-rated :
+      {rate : ℕ} → k ≡ RateLatency rate latency → Packed (serverBytes ed (port rate latency)) bytes count
+      → Packed (serverBytes ed (ofKind k)) bytes count
+  kind-rated e v = rw e v
+
+  pub kind-delay :
+      k ≡ PureDelay latency → Packed (serverBytes ed (pureDelay latency)) bytes count
+      → Packed (serverBytes ed (ofKind k)) bytes count
+  kind-delay e v = rw e v
+
+pub ruleset kind-packs = (rated-packable, delay-packable, kind-rated, kind-delay)
 
 -- ---- A curve.
 
-module _ {count : ℕ} {before : List ℕ} (p : HeadRoom count before) where
+module _ {ed count : ℕ} {before : List ℕ} (p : HeadRoom ed count before) where
   -- edition, kind and count are the head
   pub head-packed :
-      {b after : List ℕ} {l n : ℕ} → Appends before 0 0 (bitsOf 4 1 ++ bitsOf 4 1) b 8 l
-      → Appends b 8 l (bitsOf 6 (count - 1)) after 14 n → Appends before 0 0 (headBits count) after 14 n
+      {b after : List ℕ} {l n : ℕ} → Appends before 0 0 (bitsOf 4 ed ++ bitsOf 4 1) b 8 l
+      → Appends b 8 l (bitsOf 6 (count - 1)) after 14 n → Appends before 0 0 (headBits ed count) after 14 n
   unfolding headBits
   head-packed v w = appends-both v w
 
@@ -226,8 +267,8 @@ module _ {l before : List ℕ} {left count : ℕ} {bytes : List ℕ} {rest k : �
 
 pub ruleset bucket-packs = (buckets-start, bucket-fitting, buckets-step, buckets-end)
 
-module _ {l before : List ℕ} (p : PackableCurve l before) {count : ℕ} (e : count ≡ length (curveOf l)) where
-  module _ {b : List ℕ} {m : ℕ} (v : Appends before 0 0 (headBits count) b 14 m) where
+module _ (ed : ℕ) {l before : List ℕ} (p : PackableCurve l before) {count : ℕ} (e : count ≡ length (curveOf l)) where
+  module _ {b : List ℕ} {m : ℕ} (v : Appends before 0 0 (headBits ed count) b 14 m) where
     -- there is room behind the head,
     pub behind-head : PackableCurve l b
     behind-head =
@@ -260,14 +301,14 @@ module _ {l before : List ℕ} (p : PackableCurve l before) {count : ℕ} (e : c
           {after : List ℕ} {rest : ℕ}
           → Appends c (14 + 60 * count) left (bitsOf (7 - (14 + 60 * count + 7) % 8) 0) after
           (14 + 60 * count + (7 - (14 + 60 * count + 7) % 8)) rest
-          → PackedCurve l after ((14 + 60 * count + (7 - (14 + 60 * count + 7) % 8)) / 8)
+          → Packed (curveBytes ed l) after ((14 + 60 * count + (7 - (14 + 60 * count + 7) % 8)) / 8)
       unfolding curveBytes headBits bucketBits profileBits fields packed
       curve-packed x =
           record {
             is =
-                packed-file (curve (curveOf l)) ((14 + 60 * count + (7 - (14 + 60 * count + 7) % 8)) / 8)
+                packed-file ed (curve (curveOf l)) ((14 + 60 * count + (7 - (14 + 60 * count + 7) % 8)) / 8)
                 (7 - (14 + 60 * count + 7) % 8)
-                (omega (arith, p .room, p .few)) (omega arith) (omega (arith, curve-bits edition (curveOf l))) (omega arith)
+                (omega (arith, p .room, p .few)) (omega arith) (omega (arith, curve-bits ed (curveOf l))) (omega arith)
                 (appends-both v (appends-both (rw end-is at w) x))
                 (rw e (simp append-assoc));
             few = omega (arith, p .few);

@@ -7,24 +7,25 @@ use Prim.Native.Nat.{ℕ, _*_, _≤_}
 use native.Mathlib.Omega.{arith}
 use lib.Dec.{lit≤}
 use lib.ListN.{length, take}
+use borrow.Author.Tests.{ne-eqb}
 use Rattle.meaning.specs.Curve.{Bucket, flat, curveOf, listOf}
-use Rattle.meaning.specs.Server.{noServer, port}
-use Rattle.meaning.specs.ServerQuestions.{serverLines}
+use Rattle.meaning.specs.Server.{Server, pureDelay, noServer, port}
 use Rattle.meaning.specs.Refusal.{Refusal, number, Lines, Clear, Verdict, accepted, rejected, Uneven, curveLines, TooLarge, over, allLines, part, PartOutcome}
-use Rattle.meaning.specs.Profile.{Profile, curve, server, field, bucketsIn, kindIn, profileOf, profileLines, fileLines, bucketsOf, reading, Reading, ReadOutcome, ReadPartOutcome}
+use Rattle.meaning.specs.Profile.{curve, server, kindOf, field, bucketsIn, editionOf, kindIn, serverHeld, profileOf, profileLines, fileLines, bucketsOf, reading, Reading, ReadOutcome, ReadPartOutcome}
 use Rattle.meaning.proofs.Lists.{flat-length, buckets-flat}
 use Rattle.meaning.proofs.outcome.Outcomes.{three-parts, refuse-in-part, asked-so-in-part, whole-list}
 use Rattle.meaning.proofs.outcome.Answers.{outcome-code}
 use Rattle.meaning.proofs.outcome.Slips.{refusal-keeps-table}
-use Rattle.meaning.proofs.profile.Files.{held-few, read-in-range, length-buckets-in, held-curve, held-server, server-taken}
+use Rattle.meaning.proofs.profile.Files.{held-few, read-in-range, length-buckets-in, held-curve, held-server, at-delay, at-rate, held-kind, byteSize, byte-size, server-taken}
 use Rattle.meaning.proofs.profile.Refusals.{profile-decides}
 use Rattle.meaning.proofs.profile.Outcomes.{file-up-to, read-refused, read-answered}
 use Rattle.checks.proofs.Checks.{passed}
+use Rattle.servers.specs.Contracts as of-servers
 use Rattle.settle.specs.Contracts.{delivering}
 use Rattle.settle.proofs.Delivering.{delivery-clear}
 use Rattle.profiles.specs.declared.Profile as held-profile
 use Rattle.profiles.specs.Contracts.{InFile, countIn, Counts, Framed, Tested, readingOf, refusedReading, ServerFile, CurveFile, Holds, Decoded, ReadAlone}
-use Rattle.profiles.proofs.Header.{taken-by-curve}
+use Rattle.profiles.proofs.Header.{taken-by-curve, taken-bytes}
 
 -- ---- Refusals.
 
@@ -45,6 +46,14 @@ refused-file file {at} {room} {table} some v =
       list = refuse-in-part (reading file) at room table (file-up-to file) some v;
       told = read-refused file [] some v .told;
     }
+
+-- what is told then: the number, no server, and 0 for the rest
+pub told-none :
+    {code : ℕ} {s : Server} → s ≡ noServer
+    → record { code = code; edition = 0; kind = 0; count = 0; server = s } ≡ refusedReading code
+told-none e = rw e
+
+pub ruleset refusals = (told-none)
 
 -- the frame is refused
 pub frame-refused :
@@ -77,46 +86,61 @@ beside o at room table =
     record { list = record { inside = v .list; outside = three-parts at room table }; told = v .told }
 
 module _ {file : List ℕ} (w : ServerFile file) where
-  -- a server's file has six bytes
-  six-bytes : length file ≡ 6
-  six-bytes = w .frame .whole .is ∙ server-taken file (w .kind)
+  -- a server's file has the bytes of its kind
+  its-bytes : length file ≡ byteSize (kindIn file)
+  its-bytes = w .frame .whole .is ∙ server-taken file (w .kind)
 
-  -- the rate and the latency lie in the file
-  pub server-rate-inside : InFile file 8 20
-  server-rate-inside = record { inside = omega (arith, six-bytes); near = lit≤ tt; narrow = lit≤ tt }
+  -- the first number lies in the file,
+  pub first-inside : InFile file 8 20
+  first-inside =
+      record { inside = omega (arith, its-bytes, byte-size (kindIn file) .0); near = lit≤ tt; narrow = lit≤ tt }
 
-  -- and the latency behind the rate
-  pub server-latency-inside : InFile file 28 20
-  server-latency-inside = record { inside = omega (arith, six-bytes); near = lit≤ tt; narrow = lit≤ tt }
+  module _ {kind : ℕ} (k : kind ≡ kindIn file) {first : ℕ} (f : first ≡ field file 8 20) where
+    -- and of kind 3 is the latency of a pure delay
+    pub held-delay : kind ≡ 3 → {s : Server} → s ≡ pureDelay first → s ≡ serverHeld file
+    held-delay is e = e ∙ ap pureDelay f ∙ sym (at-delay file (sym k ∙ is))
 
-  module _
-      {rate latency : ℕ} (r : rate ≡ field file 8 20) (l : latency ≡ field file 28 20) {code : ℕ}
-      (v : Verdict (serverLines (port rate latency)) code)
-    where
-      -- the file holds that server
-      holds-server : profileOf file ≡ server (port rate latency)
-      holds-server = held-server file (w .kind) ∙ cc (r, l)
+    module _ (other : kind ≡ 3 → ⊥) where
+      -- of another kind the latency lies behind it,
+      pub latency-inside : InFile file 28 20
+      latency-inside =
+          let six : byteSize (kindIn file) ≡ 6 = rw (ne-eqb (kindIn file) 3 (λ h. other (k ∙ h))) in
+          record { inside = omega (arith, its-bytes, six); near = lit≤ tt; narrow = lit≤ tt }
 
-      -- it is out of range
-      pub server-file-refused : {x : held-profile.Profile} → (code ≡ 0 → ⊥) → readingOf x ≡ refusedReading code → ReadAlone file x
-      server-file-refused some e =
-          record {
-            outcome = λ at room table.
-                rw e (refused-file file (omega (arith, some)) (profile-verdict (w .frame) (rw holds-server v)));
-          }
+      -- and it is the rate
+      pub held-rate : {latency : ℕ} → latency ≡ field file 28 20 → {s : Server} → s ≡ port first latency → s ≡ serverHeld file
+      held-rate l e = e ∙ cc (f, l) ∙ sym (at-rate file (λ h. other (k ∙ h)))
 
-      -- it is read
-      pub server-file-read :
-          {x : held-profile.Profile}
-          → code ≡ 0 → readingOf x ≡ record { code = 0; kind = 2; count = 0; server = port rate latency } → ReadAlone file x
-      unfolding over listOf flat
-      server-file-read right e = record { outcome = rw e (beside alone) }
-        where
-          clear : Clear (fileLines file)
-          clear = passed (profile-verdict (w .frame) (rw holds-server v)) right
+  module _ {s : Server} (e : s ≡ serverHeld file) {code : ℕ} (v : of-servers.Tested s code) where
+    -- the file holds that server
+    holds-server : profileOf file ≡ server s
+    holds-server = held-server file (w .kind) ∙ ap server (sym e)
 
-          alone : (before : List ℕ) → ReadOutcome file before before (record { code = 0; kind = 2; count = 0; server = port rate latency })
-          alone before = rw holds-server at (read-answered file before clear (rw holds-server (omega arith)))
+    -- it is tested
+    tested-server : Verdict (fileLines file) code
+    tested-server = profile-verdict (w .frame) (rw holds-server (v .verdict))
+
+    -- it is out of range
+    pub server-file-refused : {x : held-profile.Profile} → (code ≡ 0 → ⊥) → readingOf x ≡ refusedReading code → ReadAlone file x
+    server-file-refused some e′ =
+        record { outcome = λ at room table. rw e′ (refused-file file (omega (arith, some)) tested-server) }
+
+    -- it is read
+    pub server-file-read :
+        {x : held-profile.Profile} {ed kind : ℕ} → code ≡ 0 → ed ≡ editionOf file → kind ≡ kindIn file
+        → readingOf x ≡ record { code = 0; edition = ed; kind = kind; count = 0; server = s } → ReadAlone file x
+    unfolding over listOf flat
+    server-file-read right first k e′ = record { outcome = rw (e′, first, k ∙ own-kind) (beside alone) }
+      where
+        own-kind : kindIn file ≡ kindOf (server s)
+        own-kind = rw holds-server at (held-kind file (w .frame .header .known .1))
+
+        alone :
+            (before : List ℕ)
+            → ReadOutcome file before before
+            (record { code = 0; edition = editionOf file; kind = kindOf (server s); count = 0; server = s })
+        alone before =
+            rw holds-server at (read-answered file before (passed tested-server right) (rw holds-server (omega arith)))
 
 -- ---- A curve.
 
@@ -160,7 +184,7 @@ module _ {file : List ℕ} (w : CurveFile file) {n : ℕ} (count : Counts file n
   pub curve-holds : Holds file n
   curve-holds =
       record {
-        inside = omega (arith, w .frame .whole .is, taken-by-curve file refl (w .kind) count);
+        inside = omega (arith, w .frame .whole .is, taken-bytes file (taken-by-curve file refl (w .kind) count));
         few = count .few;
       }
 
@@ -210,18 +234,19 @@ module _ {file : List ℕ} (w : CurveFile file) {n : ℕ} (count : Counts file n
               rw e
               (record {
                 list = subst (PartOutcome (reading file) at room table after told) (refusal-keeps-table read-so some .1) read-so;
-                told = record { accepted = λ z. absurd (some z); refused = λ _. (refl, refl) };
+                told = record { accepted = λ z. absurd (some z); refused = λ _. (refl, refl, refl) };
               })
 
           -- it is read
           pub curve-file-read :
-              {x : Reading} → told ≡ 0 → x ≡ record { code = 0; kind = 1; count = found; server = noServer }
+              {x : Reading} {ed : ℕ} {s : Server} → told ≡ 0 → ed ≡ editionOf file → s ≡ noServer
+              → x ≡ record { code = 0; edition = ed; kind = 1; count = found; server = s }
               → ReadPartOutcome file at room table after x
-          curve-file-read zero-code e =
-              rw e
+          curve-file-read zero-code first none e =
+              rw (e, first, none)
               (record {
                 list = rw zero-code at read-so;
-                told = record { accepted = λ _. rw holds-curve (refl, refl); refused = λ z. absurd (z refl) };
+                told = record { accepted = λ _. rw holds-curve (refl, refl, refl); refused = λ z. absurd (z refl) };
               })
 
 -- ---- A file.
@@ -257,7 +282,9 @@ read-never-large {file} {before} {x = x} o e = told (outcome-code (o .list))
     told (accepted none-holds z) = omega arith
     told (rejected r w is) = none r (sym is ∙ e) (w .holds)
 
-pub ruleset server-files = (server-rate-inside, server-latency-inside, server-file-refused, server-file-read)
+pub ruleset server-held = (first-inside, held-delay, latency-inside, held-rate)
+
+pub ruleset server-files = (server-file-refused, server-file-read)
 
 pub ruleset curve-files = (curve-holds, curve-file-refused, curve-file-short, curve-file-read)
 

@@ -9,7 +9,7 @@ use Rattle.meaning.specs.Curve.{flat, curveOf}
 use Rattle.meaning.specs.Server.{Server, noServer}
 use Rattle.meaning.specs.ServerQuestions.{ServerInRange}
 use Rattle.meaning.specs.Refusal.{Verdict, AllInRange, BytesQuestion}
-use Rattle.meaning.specs.Profile.{bitsOf, packed, fileBits, edition, curveKind, curve, server, bucketFields, written, field, bucketsIn, kindIn, bytesTaken, padding, fileLines, Reading, ReadPartOutcome}
+use Rattle.meaning.specs.Profile.{bitsOf, packed, fileBits, curveKind, curve, server, bucketFields, profileBits, written, field, bucketsIn, editionOf, kindIn, profileOf, bytesTaken, padding, fileLines, Reading, ReadPartOutcome}
 use Rattle.meaning.proofs.profile.RoundTrip.{RightHeader}
 use Rattle.servers.specs.Contracts.{serverOf}
 use Rattle.profiles.specs.declared.Profile as held-profile
@@ -38,6 +38,11 @@ pub record Counts (file : List ℕ) (count : ℕ) : Type 0 where
   pub is : count ≡ countIn file
   pub few : count ≤ 64
 
+-- The bits before padding of the profile that a file begins with: those of 64 buckets at most.
+pub record BitsTaken (file : List ℕ) (bits : ℕ) : Type 0 where
+  pub is : bits ≡ length (profileBits (editionOf file) (profileOf file))
+  pub few : bits ≤ 3854
+
 -- A file's byte count is what kind and count require.
 pub record Whole (file : List ℕ) : Type 0 where
   pub is : length file ≡ bytesTaken file
@@ -57,11 +62,12 @@ pub record Tested (file : List ℕ) (P : Type 0) (code : ℕ) : Type 0 where
 
 -- What code holds as a reading.
 abbrev pub readingOf : held-profile.Profile → Reading
-readingOf x = record { code = x .code; kind = x .kind; count = x .count; server = serverOf (x .server) }
+readingOf x =
+    record { code = x .code; edition = x .edition; kind = x .kind; count = x .count; server = serverOf (x .server) }
 
--- A refusal with its number: 0 for the rest.
+-- A refusal with its number: no server, and 0 for the rest.
 abbrev pub refusedReading : ℕ → Reading
-refusedReading code = record { code = code; kind = 0; count = 0; server = noServer }
+refusedReading code = record { code = code; edition = 0; kind = 0; count = 0; server = noServer }
 
 -- A server's file whose frame is right,
 pub record ServerFile (file : List ℕ) : Type 0 where
@@ -121,14 +127,15 @@ pub record Appends (before : List ℕ) (at left : ℕ) (bits after : List ℕ) (
   pub whole : AreBytes (take (at / 8) before) → AreBytes (take (to / 8) after)
   pub long : length after ≡ length before
 
--- A server that is in range, and room for its bytes.
-pub record PackableServer (s : Server) (bytes : List ℕ) : Type 0 where
+-- An edition that fits its field, a server that is in range, and room for its bytes.
+pub record PackableServer (ed : ℕ) (s : Server) (bytes : List ℕ) : Type 0 where
+  pub early : ed < 2 ^ 4
   pub ranged : ServerInRange s
-  pub room : length bytes ≡ 482
+  pub room : length bytes ≡ 6
 
--- Its file.
-unfoldable pub serverBytes : Server → List ℕ
-serverBytes s = written edition (server s)
+-- The server's file.
+unfoldable pub serverBytes : ℕ → Server → List ℕ
+serverBytes ed s = written ed (server s)
 
 -- The list of a curve of 1 to 64 buckets that are in range, and room for its bytes.
 pub record PackableCurve (l bytes : List ℕ) : Type 0 where
@@ -137,15 +144,16 @@ pub record PackableCurve (l bytes : List ℕ) : Type 0 where
   pub few : length (curveOf l) ≤ 64
   pub room : length bytes ≡ 482
 
--- A count of 1 to 64, and room.
-pub record HeadRoom (count : ℕ) (bytes : List ℕ) : Type 0 where
+-- An edition that fits its field, a count of 1 to 64, and room.
+pub record HeadRoom (ed count : ℕ) (bytes : List ℕ) : Type 0 where
+  pub early : ed < 2 ^ 4
   pub some : 1 ≤ count
   pub few : count ≤ 64
   pub room : length bytes ≡ 482
 
 -- The bits before a curve's buckets: edition, kind, count minus one.
-unfoldable pub headBits : ℕ → List ℕ
-headBits count = bitsOf 4 edition ++ bitsOf 4 curveKind ++ bitsOf 6 (count - 1)
+unfoldable pub headBits : ℕ → ℕ → List ℕ
+headBits ed count = bitsOf 4 ed ++ bitsOf 4 curveKind ++ bitsOf 6 (count - 1)
 
 -- The bits of its buckets,
 unfoldable pub bucketBits : List ℕ → List ℕ
@@ -156,13 +164,13 @@ unfoldable pub bitCount : List ℕ → ℕ
 bitCount l = 14 + 60 * length (curveOf l)
 
 -- and its file.
-unfoldable pub curveBytes : List ℕ → List ℕ
-curveBytes l = written edition (curve (curveOf l))
+unfoldable pub curveBytes : ℕ → List ℕ → List ℕ
+curveBytes ed l = written ed (curve (curveOf l))
 
--- It stands at the start of the bytes, and has so many.
-pub record PackedCurve (l bytes : List ℕ) (count : ℕ) : Type 0 where
-  pub is : take count bytes ≡ curveBytes l
-  pub few : count ≤ 482
+-- A file stands at the start of the bytes, and has so many.
+pub record Packed (file bytes : List ℕ) (count : ℕ) : Type 0 where
+  pub is : take count bytes ≡ file
+  pub few : count ≤ length bytes
 
 -- ---- Handing over.
 

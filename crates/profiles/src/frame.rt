@@ -15,17 +15,10 @@ fn header(file: &[u8]) -> u64
     if file.len() == 0 {
         return limits::HEADER;
     }
-    if bits::take_field(file, 0, 4) != crate::EDITION {
+    if !crate::has_kind(crate::edition_in(file), crate::kind_in(file)) {
         return limits::HEADER;
     }
-    let kind = crate::kind_in(file);
-    if kind == crate::CURVE {
-        return 0;
-    }
-    if kind == crate::SERVER {
-        return 0;
-    }
-    limits::HEADER
+    0
 }
 
 // Whether the byte count is what kind and count require.
@@ -40,10 +33,7 @@ fn padding_in(file: &[u8]) -> u64
     requires { ⌜ Whole (now file) ⌝ }
     ensures { λ r. ⌜ r ≡ spelt (padding (now (file .entry))) ⌝ }
 {
-    if crate::kind_in(file) != crate::CURVE {
-        return 0;
-    }
-    let end = 14 + 60 * crate::count_in(file);
+    let end = crate::bits_taken(file);
     bits::take_field(file, end, 8 * file.len() - end)
 }
 

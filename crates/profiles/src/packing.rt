@@ -1,13 +1,13 @@
 // Fields one behind the other, the highest bit of each first, into bytes. What does not fill a byte yet is `left`, a number of as
 // many bits as the position is past the byte's start.
+use servers::Kind;
 use servers::Server;
-ghost use mathlib.Core.Path.{_≡_};
 ghost use mathlib.Core.List.{_++_};
-ghost use Prim.Native.Nat.{_+_, _<_};
-ghost use lib.ListN.{take};
+ghost use Prim.Native.Nat.{_+_, _^_, _<_};
+ghost use Rattle.meaning.specs.Server.{port, pureDelay};
 ghost use Rattle.meaning.specs.Profile.{bitsOf};
 ghost use Rattle.servers.specs.Contracts.{serverOf};
-ghost use Rattle.profiles.specs.Contracts.{Fitting, FittingTwo, Appends, HeadRoom, headBits, PackableServer, serverBytes, PackableCurve, bucketBits, bitCount, PackedCurve};
+ghost use Rattle.profiles.specs.Contracts.{Fitting, FittingTwo, Appends, HeadRoom, headBits, PackableServer, serverBytes, PackableCurve, bucketBits, bitCount, curveBytes, Packed};
 
 // Packs a field of `width` bits that begins at bit `at`, and answers what is left.
 fn put(bytes: &mut [u8], at: usize, left: u64, width: usize, x: u64) -> u64
@@ -42,23 +42,44 @@ fn put_two(
     put(bytes, at + width, rest, width_behind, y)
 }
 
-// Packs a server, which takes six bytes.
-pub(crate) fn pack_server(server: Server, bytes: &mut [u8])
-    requires { ⌜ PackableServer (serverOf server) (now bytes) ⌝ }
-    ensures { λ _. ⌜ take 6 (now (bytes .exit)) ≡ serverBytes (serverOf server) ⌝ }
+// Packs a rate-latency server, which takes six bytes.
+fn pack_rated(edition: u64, rate: u64, latency: u64, bytes: &mut [u8]) -> usize
+    requires { ⌜ PackableServer edition (port rate latency) (now bytes) ⌝ }
+    ensures { λ r. ⌜ Packed (serverBytes edition (port rate latency)) (now (bytes .exit)) r ⌝ }
 {
-    let rate = server.rate;
-    let latency = server.latency;
-    let left = put_two(bytes, 0, 0, 4, crate::EDITION, 4, crate::SERVER);
+    let left = put_two(bytes, 0, 0, 4, edition, 4, servers::RATE_LATENCY);
     put_two(bytes, 8, left, 20, rate, 20, latency);
+    6
+}
+
+// Packs a pure delay, which takes four, with zero bits up to the last one's end.
+fn pack_delay(edition: u64, latency: u64, bytes: &mut [u8]) -> usize
+    requires { ⌜ PackableServer edition (pureDelay latency) (now bytes) ⌝ }
+    ensures { λ r. ⌜ Packed (serverBytes edition (pureDelay latency)) (now (bytes .exit)) r ⌝ }
+{
+    let left = put_two(bytes, 0, 0, 4, edition, 4, servers::PURE_DELAY);
+    put_two(bytes, 8, left, 20, latency, 4, 0);
+    4
+}
+
+// Packs a server, and answers how many bytes it takes.
+pub(crate) fn pack_server(edition: u64, server: Server, bytes: &mut [u8]) -> usize
+    requires { ⌜ PackableServer edition (serverOf server) (now bytes) ⌝ }
+    ensures { λ r. ⌜ Packed (serverBytes edition (serverOf server)) (now (bytes .exit)) r ⌝ }
+{
+    let kind = server.kind;
+    match kind {
+        Kind::RateLatency { rate, latency } => pack_rated(edition, rate, latency, bytes),
+        Kind::PureDelay { latency } => pack_delay(edition, latency, bytes),
+    }
 }
 
 // Packs edition, kind and count of a curve.
-fn pack_head(count: usize, bytes: &mut [u8]) -> u64
-    requires { ⌜ HeadRoom count (now bytes) ⌝ }
-    ensures { λ r. ⌜ Appends (now (bytes .entry)) 0 0 (headBits count) (now (bytes .exit)) 14 r ⌝ }
+fn pack_head(edition: u64, count: usize, bytes: &mut [u8]) -> u64
+    requires { ⌜ HeadRoom edition count (now bytes) ⌝ }
+    ensures { λ r. ⌜ Appends (now (bytes .entry)) 0 0 (headBits edition count) (now (bytes .exit)) 14 r ⌝ }
 {
-    let left = put_two(bytes, 0, 0, 4, crate::EDITION, 4, crate::CURVE);
+    let left = put_two(bytes, 0, 0, 4, edition, 4, crate::CURVE);
     put(bytes, 8, left, 6, (count - 1) as u64)
 }
 
@@ -81,12 +102,13 @@ fn pack_buckets(curve: &[u64], bytes: &mut [u8], left: u64) -> u64
 }
 
 // Packs a curve, with zero bits up to the byte's end, and answers how many bytes it takes.
-pub(crate) fn pack_curve(curve: &[u64], bytes: &mut [u8]) -> usize
+pub(crate) fn pack_curve(edition: u64, curve: &[u64], bytes: &mut [u8]) -> usize
+    requires { ⌜ edition < 2 ^ 4 ⌝ }
     requires { ⌜ PackableCurve (now curve) (now bytes) ⌝ }
-    ensures { λ r. ⌜ PackedCurve (now (curve .entry)) (now (bytes .exit)) r ⌝ }
+    ensures { λ r. ⌜ Packed (curveBytes edition (now (curve .entry))) (now (bytes .exit)) r ⌝ }
 {
     let count = checks::bucket_count(curve);
-    let head = pack_head(count, bytes);
+    let head = pack_head(edition, count, bytes);
     let left = pack_buckets(curve, bytes, head);
     let end = 14 + 60 * count;
     let padding = 7 - (end + 7) % 8;

@@ -6,26 +6,38 @@ use servers::Server;
 use settle::deliver;
 ghost use mathlib.Core.Path.{_≡_};
 ghost use lib.ListN.{length};
-ghost use Rattle.meaning.specs.Profile.{ReadPartOutcome};
+ghost use Rattle.meaning.specs.Profile.{serverHeld, ReadPartOutcome};
+ghost use Rattle.servers.specs.Contracts.{serverOf};
 ghost use Rattle.profiles.specs.Contracts.{readingOf, ServerFile, CurveFile, Holds, Decoded, ReadAlone};
+
+// The server that a file holds: of kind 3 a pure delay, or else rate-latency.
+fn held(file: &[u8]) -> Server
+    requires { ⌜ ServerFile (now file) ⌝ }
+    ensures { λ r. ⌜ serverOf r ≡ serverHeld (now (file .entry)) ⌝ }
+{
+    let first = bits::take_field(file, 8, 20);
+    if crate::kind_in(file) == servers::PURE_DELAY {
+        return servers::pure_delay(first);
+    }
+    servers::rated(first, bits::take_field(file, 28, 20))
+}
 
 // Reads a server.
 pub(crate) fn server(file: &[u8]) -> Profile
     requires { ⌜ ServerFile (now file) ⌝ }
     ensures { λ r. ⌜ ReadAlone (now (file .entry)) r ⌝ }
 {
-    let rate = bits::take_field(file, 8, 20);
-    let latency = bits::take_field(file, 28, 20);
-    let server = Server { rate, latency };
+    let server = held(file);
     let code = server.refusal();
     if code != 0 {
         return crate::refused(code);
     }
     Profile {
         code: 0,
-        kind: crate::SERVER,
+        edition: crate::edition_in(file),
+        kind: crate::kind_in(file),
         count: 0,
-        server: Server { rate, latency },
+        server,
     }
 }
 
@@ -63,11 +75,9 @@ pub(crate) fn curve(file: &[u8], table: &mut [u64], at: usize, room: usize) -> P
     }
     Profile {
         code: 0,
+        edition: crate::edition_in(file),
         kind: crate::CURVE,
         count: answer.count,
-        server: Server {
-            rate: 0,
-            latency: 0,
-        },
+        server: servers::rated(0, 0),
     }
 }

@@ -62,11 +62,11 @@ module _ {input : List ℕ} {k : ℕ} (kind : k ≡ kindIn input) where
         long = long;
       }
 
-  module _ {end : ℕ} (first : FirstEnd input end) {before after : List ℕ} {code told count : ℕ} {s : Server} where
+  module _ {end : ℕ} (first : FirstEnd input end) {before after : List ℕ} {code edition told count : ℕ} {s : Server} where
     -- it is read
     pub curve-read :
         length before ≡ 128 → k ≡ 1
-        → ReadOutcome (take end input) before after (record { code = code; kind = told; count = count; server = s })
+        → ReadOutcome (take end input) before after (record { code = code; edition = edition; kind = told; count = count; server = s })
         → CurveRead input after code (2 * count)
     curve-read long curve o =
         let file = rw (first .is) at o in
@@ -82,7 +82,7 @@ module _ {input : List ℕ} {k : ℕ} (kind : k ≡ kindIn input) where
 
     -- its numbers can be counted
     pub curve-numbers :
-        ReadOutcome (take end input) before after (record { code = code; kind = told; count = count; server = s })
+        ReadOutcome (take end input) before after (record { code = code; edition = edition; kind = told; count = count; server = s })
         → Fits w64 (2 * count)
     curve-numbers o = record { fits = omega (arith, count-few (o .list)) }
 
@@ -91,7 +91,7 @@ module _ {input : List ℕ} {k : ℕ} (kind : k ≡ kindIn input) where
     -- it is read
     pub server-read :
         (k ≡ 1 → ⊥)
-        → ReadOutcome (take end input) before after (record { code = code; kind = told; count = count; server = s })
+        → ReadOutcome (take end input) before after (record { code = code; edition = edition; kind = told; count = count; server = s })
         → ServerRead input code s
     server-read other o =
         let file = rw (first .is) at o in

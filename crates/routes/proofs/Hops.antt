@@ -20,7 +20,7 @@ use Rattle.meaning.specs.Route.{IsServer, dueLines, hopLines}
 use Rattle.meaning.proofs.outcome.Outcomes.{clear-or}
 use Rattle.meaning.proofs.outcome.Answers.{clear-list, code-zero, fits-few, readBack, AnsweredList, answered-list, outcome-length}
 use Rattle.meaning.proofs.outcome.Demands.{answered-join}
-use Rattle.meaning.proofs.server.HopByHop.{behind-unique}
+use Rattle.meaning.proofs.server.BothKinds.{behind-unique}
 use Rattle.meaning.proofs.route.BackToBack.{first-length}
 use Rattle.meaning.proofs.route.Line.{JoinedInRange}
 use Rattle.meaning.proofs.route.Winning.{reading-decides, join-decides, pass-decides}
@@ -94,10 +94,10 @@ pub ruleset hop-laws = (hop-unread, hop-asked)
 -- ---- The hop with the servers before it.
 
 -- servers joined in range, in the words of the laws
-in-range : (passed : ℕ) {before : Server} → (1 ≤ passed → ServerInRange before) → JoinedInRange (joinedAfter passed before)
+in-range : (passed : ℕ) (before : Server) → (1 ≤ passed → ServerInRange before) → JoinedInRange (joinedAfter passed before)
 unfolding joinedAfter
-in-range zero h = tt
-in-range (suc passed) h = h (omega arith)
+in-range zero before h = tt
+in-range (suc passed) before h = h (omega arith)
 
 module _ (rest : List ℕ) {f : List ℕ} (after : List ℕ) {passed : ℕ} {joined : Server} (w : Stepping f passed joined) where
   -- the list of the curve comes out even
@@ -129,7 +129,7 @@ module _ (rest : List ℕ) {f : List ℕ} (after : List ℕ) {passed : ℕ} {joi
       (reading-decides (curveOf f) (joinedAfter passed joined) rest (rw listed (w .taken)) v nonzero)
   step-refused (asked lent long clear o) nonzero =
       refused-step (outcome-length (o .curve) ∙ long) nonzero
-      (pass-decides (curveOf f) (joinedAfter passed joined) rest clear (in-range passed (w .ranged))
+      (pass-decides (curveOf f) (joinedAfter passed joined) rest clear (in-range passed joined (w .ranged))
       (rw listed (roomy (o .curve) (omega (arith, long)))) nonzero)
 
   -- A hop that is answered, with what comes of joining:

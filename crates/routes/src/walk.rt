@@ -126,10 +126,7 @@ pub(crate) fn walk(
 {
     let mut numbers = first.len();
     let mut next = [0u64; 128];
-    let mut joined = Server {
-        rate: 0,
-        latency: 0,
-    };
+    let mut joined = servers::rated(0, 0);
     let mut passed = 0;
     let mut at = start;
     let mut end = 0;

@@ -8,7 +8,7 @@ use native.Mathlib.Omega.{arith}
 use lib.Dec.{lit≤}
 use lib.ListN.{length}
 use Rattle.meaning.specs.Curve.{Bucket, buckets, curveOf, listOf, reads, value, valueAt, Burst, NormalForm}
-use Rattle.meaning.specs.Server.{Server, served, last, GreatestGap, Smallest, port}
+use Rattle.meaning.specs.Server.{Server, _within_, _plus_, byRate, served, last, GreatestGap, Smallest, port}
 use Rattle.meaning.specs.Refusal.{Outcome, FigureOutcome}
 use Rattle.meaning.specs.CurveQuestions.{ValueOutcome, BurstOutcome}
 use Rattle.meaning.specs.ServerQuestions.{passing, BacklogOutcome, DelayOutcome}
@@ -17,7 +17,7 @@ use Rattle.meaning.proofs.Lists.{curve-list, EachInRange, all-in-range}
 use Rattle.meaning.proofs.Figures.{table}
 use Rattle.meaning.proofs.Readings.{served-late}
 use Rattle.meaning.proofs.curve.Reads.{reads-at-zero, reads-later, one-burst}
-use Rattle.meaning.proofs.server.Behind.{backlog-behind}
+use Rattle.meaning.proofs.server.BothKinds.{backlog-behind}
 use Rattle.meaning.proofs.server.Excess.{gap-unique}
 use Rattle.meaning.proofs.outcome.Outcomes.{clear-or}
 use Rattle.meaning.proofs.outcome.Answers.{clear-form, sound-clear, figure-answered, value-answer, one-value, one-burst-outcome, readBack}
@@ -46,7 +46,7 @@ read-at-zero f o =
 module _ (f : List ℕ) (s : Server) {burst backlog : ℕ} (all : BurstOutcome f 0 burst) (held : BacklogOutcome f s 0 backlog) where
   -- what comes at once is held: a backlog is never below the burst
   pub burst-held : burst ≤ backlog
-  burst-held = omega (arith, read-at-zero f all, served-late s 0 (omega arith), answered-backlog f s held .greatest 0)
+  burst-held = omega (arith, read-at-zero f all, rw (served-late s 0 (omega arith)) at (answered-backlog f s held .greatest 0))
 
 -- the burst of the curve behind a server is the backlog at it
 pub burst-behind :
@@ -88,34 +88,34 @@ burst-of-nothing = only-burst (one-form 0 0) (omega arith) (table .at-once .2)
 -- {(0,5)} with (10,0) has backlog 5,
 pub burst-backlog : OnlyFigure (BacklogOutcome (listOf (one 0 5)) (port 10 0)) 5
 unfolding buckets last
-burst-backlog = only-backlog (one-form 0 5) (omega arith) (omega arith) (lit≤ tt) (table .at-once .3)
+burst-backlog = only-backlog (port 10 0) (one-form 0 5) (omega arith) (omega arith) (lit≤ tt) (table .at-once .3)
 
 -- and delay 1
 pub burst-delay : OnlyFigure (DelayOutcome (listOf (one 0 5)) (port 10 0)) 1
 unfolding buckets last
-burst-delay = only-delay (one-form 0 5) (omega arith) (omega arith) (lit≤ tt) (table .at-once .4)
+burst-delay = only-delay (port 10 0) (one-form 0 5) (omega arith) (omega arith) (lit≤ tt) (table .at-once .4)
 
 -- ---- Wrong answers.
 
 -- A backlog that reads the value at 0: of {(0,5)} at (10,0) it would be 0,
 pub backlog-of-values : GreatestGap (value (one 0 5)) (served (port 10 0)) 0
-unfolding buckets value valueAt served
-backlog-of-values = record { at = 0; reached = refl; greatest = within }
+unfolding buckets value valueAt byRate
+backlog-of-values = record { at = 0; reached = refl; greatest = inside }
   where
-    within : (u : ℕ) → value (one 0 5) u ≤ served (port 10 0) u + 0
-    within zero = omega arith
-    within (suc u) = omega arith
+    inside : (u : ℕ) → value (one 0 5) u within (served (port 10 0) u plus 0)
+    inside zero = omega arith
+    inside (suc u) = omega arith
 
 -- and is not answered
 pub backlog-reads-value : BacklogOutcome (listOf (one 0 5)) (port 10 0) 0 0 → ⊥
 backlog-reads-value o = omega (arith, burst-backlog 0 0 o)
 
 -- A delay that does: it would be 0,
-pub delay-of-values : Smallest (λ d. (t : ℕ) → value (one 0 5) t ≤ served (port 10 0) (t + d)) 0
-unfolding buckets value valueAt served
+pub delay-of-values : Smallest (λ d. (t : ℕ) → value (one 0 5) t within served (port 10 0) (t + d)) 0
+unfolding buckets value valueAt byRate
 delay-of-values = record { suffices = enough; smallest = λ d h. omega arith }
   where
-    enough : (t : ℕ) → value (one 0 5) t ≤ served (port 10 0) (t + 0)
+    enough : (t : ℕ) → value (one 0 5) t within served (port 10 0) (t + 0)
     enough zero = omega arith
     enough (suc t) = omega arith
 

@@ -7,23 +7,22 @@
 use mathlib.Core.Path.{_≡_, refl, sym, _∙_, ap}
 use mathlib.Core.Logic.{inl, inr, _≢_}
 use mathlib.Core.List.{List, []}
-use Prim.Native.Nat.{ℕ, _+_, _-_, _*_, _≤_, _<_}
+use Prim.Native.Nat.{ℕ, _+_, _-_, _*_, _^_, _≤_, _<_}
 use native.Mathlib.Decide.{ℕ-discrete}
 use native.Mathlib.Omega.{arith}
 use lib.ListN.{length}
 use lib.Dec.{lit≤}
 use Rattle.meaning.specs.Curve.{curveOf, listOf, NormalForm, reads}
-use Rattle.meaning.specs.Server.{Server, noServer, served, GreatestGap, join, Behind, Backlog, Delay, Residual, last}
-use Rattle.meaning.specs.Refusal.{RANGE, UNBOUNDED, LARGE, number, Lines, _when_, _or_, Clear, Verdict, accepted, curveLines, over, Outcome, part, PartOutcome, FigureOutcome}
-use Rattle.meaning.specs.ServerQuestions.{ServerInRange, serverLines, portLines, passing, BacklogOutcome, DelayOutcome, HopFigures, HopOutcome, HopPartOutcome, ServerOutcome, JoinOutcome, ResidualOutcome}
+use Rattle.meaning.specs.Server.{RateLatency, Server, rated, pureDelay, noServer, byRate, served, GreatestGap, join, Behind, Backlog, Suffices, Delay, ResidualRated, last}
+use Rattle.meaning.specs.Refusal.{LIST, COUNT, RANGE, FORM, UNBOUNDED, LARGE, ROOM, number, Lines, _when_, _or_, Clear, Verdict, accepted, rejected, curveLines, over, Outcome, part, PartOutcome, FigureOutcome}
+use Rattle.meaning.specs.ServerQuestions.{RatedInRange, ServerInRange, serverLines, Outruns, portLines, passing, BacklogOutcome, DelayOutcome, HopFigures, HopOutcome, HopPartOutcome, ServerOutcome, JoinOutcome, ResidualOutcome}
 use Rattle.meaning.proofs.Order.{not-above}
 use Rattle.meaning.proofs.outcome.Stable.{server-stable}
-use Rattle.meaning.proofs.server.Excess.{gap-unique, excess-bounded}
-use Rattle.meaning.proofs.server.Behind.{behind-greatest}
-use Rattle.meaning.proofs.server.Joining.{smallest-unique, residual-unique, residual-law, Convolution, join-convolution}
-use Rattle.meaning.proofs.server.HopByHop.{hop-by-hop, behind-unique, either-order, joined-delay}
+use Rattle.meaning.proofs.server.Excess.{gap-unique}
+use Rattle.meaning.proofs.server.Joining.{residual-law}
+use Rattle.meaning.proofs.server.BothKinds.{delay-rate, behind-greatest, not-outrun, behind-unique, behind-form, behind-keeps-up, delay-unique, larger-suffices, smaller-fails, hop-by-hop, either-order, joined-delay, Convolved, join-convolution, left-unique}
 use Rattle.meaning.proofs.Lists.{over-start}
-use Rattle.meaning.proofs.outcome.Outcomes.{number-positive, Same, Single, refused-once, refused-or-clear, one-figure, UpTo, from-when, up-to-when, up-to-or, line-hit, clear-or, refused-first, refused-then, refusal, refuse, refuse-in-part, written-out, no-room}
+use Rattle.meaning.proofs.outcome.Outcomes.{number-positive, Same, Single, refused-once, refused-or-clear, one-figure, UpTo, from-when, from-or, up-to-when, up-to-or, line-hit, clear-or, refused-first, refused-then, refusal, refuse, refuse-in-part, written-out, no-room}
 use Rattle.meaning.proofs.outcome.Answers.{OneOutcome, one-curve, readBack, AnsweredList, answered-list, answered-length, accepted-again, clear-form, figure-answered, curve-up-to}
 
 -- ---- One outcome for every input.
@@ -67,14 +66,14 @@ module _ (f : List ℕ) (s : Server) where
       {code figure code′ figure′ : ℕ} → DelayOutcome f s code figure → DelayOutcome f s code′ figure′
       → (code ≡ code′) × (figure ≡ figure′)
   unfolding DelayOutcome
-  one-delay = one-figure (λ m n x y. smallest-unique x y)
+  one-delay = one-figure (λ m n x y. delay-unique x y)
 
   -- and residual one
   pub one-residual :
       {code code′ : ℕ} {left left′ : Server} → ResidualOutcome f s code left → ResidualOutcome f s code′ left′
       → (code ≡ code′) × (left ≡ left′)
   unfolding ResidualOutcome
-  one-residual = one-server (λ x y. residual-unique)
+  one-residual = one-server (left-unique (curveOf f) s)
 
 -- What a hop leaves to be seen is the same.
 pub record SameHop
@@ -122,7 +121,7 @@ module _ (f : List ℕ) (s : Server) where
       elim (ℕ-discrete code 0) [
         | yes e ↦ (
           gap-unique (x .backlog-is e) (y .backlog-is e),
-          smallest-unique (x .delay-is e) (y .delay-is e),
+          delay-unique (x .delay-is e) (y .delay-is e),
           x .server-is e ∙ sym (y .server-is e),
         )
         | no n ↦ (
@@ -168,7 +167,7 @@ module _ (f : List ℕ) (s : Server) {Broken : Type 0} (clear : Clear (curveLine
 
   -- the server is in range,
   pub port-server : ServerInRange s
-  port-server = server-stable (λ out. clear RANGE (inl (inr (refl, out))))
+  port-server = server-stable s (λ out. clear RANGE (inl (inr (refl, out))))
 
   -- and the bound is not broken
   pub port-bounded : Broken → ⊥
@@ -184,25 +183,30 @@ pub record BehindRead (f : List ℕ) (s : Server) (g : List ℕ) : Type 0 where
   pub accepted : Clear (curveLines g)
   pub greatest : (t : ℕ) → GreatestGap (λ u. reads (curveOf f) (t + u)) (served s) (reads (curveOf g) t)
 
--- An answered delay: it suffices at every whole tick, and no smaller number does.
+-- An answered delay: every larger number suffices at every whole tick, and no smaller one does for a curve that carries anything.
 pub record DelayRead (f : List ℕ) (s : Server) (d : ℕ) : Type 0 where
-  pub suffices : (t : ℕ) → reads (curveOf f) t ≤ served s (t + d)
-  pub no-less : (m : ℕ) → m < d → ((t : ℕ) → reads (curveOf f) t ≤ served s (t + m)) → ⊥
+  pub larger-suffices : (m : ℕ) → d < m → Suffices (curveOf f) s m
+  pub no-smaller : (t : ℕ) → 0 < reads (curveOf f) t → (m : ℕ) → m < d → Suffices (curveOf f) s m → ⊥
 
--- An answered residual: by its rule; and what it has served by a tick past its latency, with what the cross traffic may have sent
--- since, is within what the whole server has served.
-pub record ResidualRead (cross : List ℕ) (s left : Server) : Type 0 where
-  pub definition : Residual (curveOf cross) s left
-  pub in-range : ServerInRange left
+-- At a rate-latency server it suffices itself, and no smaller number does, whatever the curve carries.
+pub record DelayReadRated (f : List ℕ) (s : RateLatency) (d : ℕ) : Type 0 where
+  pub suffices : (t : ℕ) → reads (curveOf f) t ≤ byRate s (t + d)
+  pub no-less : (m : ℕ) → m < d → ((t : ℕ) → reads (curveOf f) t ≤ byRate s (t + m)) → ⊥
+
+-- An answered residual: a rate-latency server, by its rule; and what it has served by a tick past its latency, with what the cross
+-- traffic may have sent since, is within what the whole server has served.
+pub record ResidualRead (cross : List ℕ) (s left : RateLatency) : Type 0 where
+  pub definition : ResidualRated (curveOf cross) s left
+  pub in-range : RatedInRange left
   pub never-more :
       (t : ℕ) → left .latency ≤ t
-      → served left t + reads (curveOf cross) (t - left .latency) ≤ s .rate * (t - s .latency)
+      → byRate left t + reads (curveOf cross) (t - left .latency) ≤ s .rate * (t - s .latency)
 
 -- An answered joined server: it serves by each tick the min-plus convolution of what the two serve.
 pub record JoinRead (s next joined : Server) : Type 0 where
   pub definition : joined ≡ join s next
   pub in-range : ServerInRange joined
-  pub convolution : (t : ℕ) → Convolution (served s) (served next) t (served joined t)
+  pub convolution : (t : ℕ) → Convolved (served s) (served next) t (served joined t)
 
 -- where no line holds a figure is answered
 pub figure-clear :
@@ -217,7 +221,7 @@ server-answered :
     → ServerOutcome operands Answer 0 s → Clear operands × Answer s × ServerInRange s
 server-answered (ServerOutcome.refused v e) = absurd (omega (arith, v .code-is, number-positive (v .why)))
 server-answered {s = s} (ServerOutcome.answered clear e x) =
-    (λ r h. clear r (inl h), x, server-stable (λ out. clear LARGE (inr (refl, (s, x, out)))))
+    (λ r h. clear r (inl h), x, server-stable s (λ out. clear LARGE (inr (refl, (s, x, out)))))
 
 -- what is answered to join,
 pub answered-join : (s next : Server) {joined : Server} → JoinOutcome s next 0 joined → JoinRead s next joined
@@ -234,8 +238,8 @@ module _ (f : List ℕ) (s : Server) where
   read-behind good =
       record {
         definition = good .right;
-        normal-form = good .right .normal .form;
-        accepted = accepted-again good (good .right .normal .form);
+        normal-form = behind-form (good .right);
+        accepted = accepted-again good (behind-form (good .right));
         greatest = behind-greatest (port-form f s (good .operands-clear) .some) (good .right);
       }
 
@@ -249,26 +253,45 @@ module _ (f : List ℕ) (s : Server) where
   unfolding BacklogOutcome
   answered-backlog o = figure-answered o .1
 
-  -- to delay,
+  -- and to delay
   pub answered-delay : {d : ℕ} → DelayOutcome f s 0 d → DelayRead f s d
   unfolding DelayOutcome
   answered-delay o =
-      let known = figure-answered o .1 in
-      record { suffices = known .suffices; no-less = λ m less enough. omega (arith, known .smallest m enough) }
+      let known = figure-answered o in
+      record {
+        larger-suffices = larger-suffices (port-form f s (known .0) .some) (known .1);
+        no-smaller = smaller-fails (known .1);
+      }
 
-  -- and to residual
-  pub answered-residual : {left : Server} → ResidualOutcome f s 0 left → ResidualRead f s left
-  unfolding ResidualOutcome
-  answered-residual o =
-      let known = server-answered o in
-      let clear = known .0 in
+-- at a rate-latency server too,
+pub answered-delay-rated : (f : List ℕ) (s : RateLatency) {d : ℕ} → DelayOutcome f (rated s) 0 d → DelayReadRated f s d
+unfolding DelayOutcome
+answered-delay-rated f s o =
+    let known = delay-rate (figure-answered o .1) in
+    record { suffices = known .suffices; no-less = λ m less enough. omega (arith, known .smallest m enough) }
+
+-- and to residual: a rate-latency server asked, and one answered
+pub answered-residual :
+    (f : List ℕ) (s : Server) {left : Server} → ResidualOutcome f s 0 left
+    → (r : RateLatency) × (r′ : RateLatency) × (s ≡ rated r) × (left ≡ rated r′) × ResidualRead f r r′
+unfolding ResidualOutcome
+answered-residual f (rated s) {left = rated left} o =
+    let known = server-answered o in
+    let clear = known .0 in (
+      s,
+      left,
+      refl,
+      refl,
       record {
         definition = known .1;
         in-range = known .2;
         never-more =
-            residual-law (port-form f s clear .some) (known .1)
-            (not-above (λ h. port-bounded f s clear (omega arith)));
-      }
+            residual-law (port-form f (rated s) clear .some) (known .1)
+            (not-above (λ h. port-bounded f (rated s) clear (omega arith)));
+      },
+    )
+answered-residual f (rated s) {left = pureDelay latency} o = absurd (server-answered o .1)
+answered-residual f (pureDelay latency) o = absurd (server-answered o .1)
 
 -- ---- Demand 3: hop by hop is one step through the joined server.
 
@@ -357,7 +380,7 @@ module _ {f : List ℕ} {s next joined : Server} {a g : List ℕ} (hops : TwoHop
   joined-clear : Clear (portLines f joined)
   joined-clear =
       clear-or (clear-or first-clear (λ r h. h .1 (answered-join s next (hops .joining) .in-range)))
-      (λ r h. omega (arith, h .1, excess-bounded curve-form (joined-behind .excess)))
+      (λ r h. not-outrun (curveOf f) joined (behind-keeps-up curve-form joined-behind) (h .1))
 
   -- so the one step is answered with that list, given room,
   step-answered :
@@ -414,7 +437,7 @@ module _ {f : List ℕ} {s next joined : Server} {a g : List ℕ} (hops : TwoHop
     where
       bound : Delay (curveOf f) joined n → n ≤ d + e
       bound through =
-          joined-delay next (curve-form .some) (first-behind .definition)
+          joined-delay (curve-form .some) (first-behind .definition)
           (figure-clear (hop-read (hops .first) .operands-clear) x .1) (figure-clear (last-list .operands-clear) y .1)
           (rw joined-is at through)
 
@@ -452,7 +475,7 @@ port-up-to f s = up-to-or (up-to-or (curve-up-to f) (server-up-to s)) (up-to-whe
 -- an operand of a question that a server answers is refused
 pub server-refused :
     {operands : Lines} {Answer : Server → Type 0} {code : ℕ}
-    → UpTo 8 operands → 1 ≤ code → Verdict operands code → ServerOutcome operands Answer code (record { rate = 0; latency = 0 })
+    → UpTo 8 operands → 1 ≤ code → Verdict operands code → ServerOutcome operands Answer code noServer
 unfolding number
 server-refused h some v = ServerOutcome.refused (refusal [] some (refused-first h (from-when LARGE (lit≤ tt)) some v)) refl
 
@@ -463,7 +486,7 @@ module _ (f : List ℕ) (s : Server) (curve : Clear (curveLines f)) (server : Se
   unfolding number
   port-unbounded broken = refused-then (accepted (clear-or curve (λ r h. h .1 server)) refl) (line-hit UNBOUNDED broken)
 
-  module _ (above : s .rate < last (curveOf f) .rate) where
+  module _ (above : Outruns (curveOf f) s) where
     -- so behind is refused, with no count, and the whole table stays,
     pub refused-behind : (at room : ℕ) (lent : List ℕ) → PartOutcome (passing f s) at room lent lent 8 0
     unfolding passing
@@ -492,9 +515,60 @@ module _ (f : List ℕ) (s : Server) (curve : Clear (curveLines f)) (server : Se
     unfolding DelayOutcome
     unbounded-delay o = one-delay f s o refused-figure
 
-  -- residual, already where the last rate is R: with no server
-  pub unbounded-residual :
-      {code : ℕ} {left : Server} → s .rate ≤ last (curveOf f) .rate → ResidualOutcome f s code left
-      → (code ≡ 8) × (left ≡ record { rate = 0; latency = 0 })
-  unfolding ResidualOutcome
-  unbounded-residual above o = one-residual f s o (server-refused (port-up-to f s) (lit≤ tt) (port-unbounded above))
+-- residual, already where the last rate is R: with no server
+pub unbounded-residual :
+    (f : List ℕ) (s : RateLatency) → Clear (curveLines f) → RatedInRange s → {code : ℕ} {left : Server}
+    → s .rate ≤ last (curveOf f) .rate → ResidualOutcome f (rated s) code left → (code ≡ 8) × (left ≡ noServer)
+unfolding ResidualOutcome
+unbounded-residual f s curve ranged above o =
+    one-residual f (rated s) o (server-refused (port-up-to f (rated s)) (lit≤ tt) (port-unbounded f (rated s) curve ranged above))
+
+-- ---- A pure delay.
+
+-- its residual is RANGE, where the curve is not refused
+pub residual-of-delay :
+    (f : List ℕ) (latency : ℕ) → Clear (curveLines f) → {code : ℕ} {left : Server}
+    → ResidualOutcome f (pureDelay latency) code left → (code ≡ 6) × (left ≡ noServer)
+unfolding ResidualOutcome number
+residual-of-delay f latency curve o =
+    one-residual f (pureDelay latency) o
+    (server-refused
+    (up-to-or (up-to-or (curve-up-to f) (server-up-to (pureDelay latency))) (up-to-when RANGE (lit≤ tt))) (lit≤ tt)
+    (rejected RANGE
+    (record {
+      holds = inr (refl, tt);
+      smallest = from-or (from-or (λ r h. absurd (curve r h)) (from-when RANGE (lit≤ tt))) (from-when RANGE (lit≤ tt));
+    }) refl))
+
+-- no line of a curve and a pure delay is above FORM,
+pub delay-up-to : (f : List ℕ) (latency : ℕ) → UpTo 7 (portLines f (pureDelay latency))
+unfolding number
+delay-up-to f latency =
+    up-to-or
+    (up-to-or
+    (up-to-or (up-to-or (up-to-or (up-to-when LIST (lit≤ tt)) (up-to-when COUNT (lit≤ tt))) (up-to-when RANGE (lit≤ tt)))
+    (up-to-when FORM (lit≤ tt)))
+    (up-to-when RANGE (lit≤ tt)))
+    (λ r h. absurd (h .1))
+
+module _ (f : List ℕ) (latency : ℕ) where
+  -- so it is never UNBOUNDED: neither is backlog or delay,
+  pub figure-bounded : {Figure : ℕ → Type 0} {code n : ℕ} → FigureOutcome (portLines f (pureDelay latency)) Figure code n → code ≢ 8
+  figure-bounded (FigureOutcome.refused v) e = omega (arith, v .code-is, delay-up-to f latency (v .why) (v .wins .holds))
+  figure-bounded (FigureOutcome.answered clear none x) e = omega arith
+
+  -- nor behind
+  pub behind-bounded :
+      {before after : List ℕ} {code count : ℕ} → Outcome (passing f (pureDelay latency)) before after code count → code ≢ 8
+  unfolding passing number
+  behind-bounded (Outcome.refused v) e =
+      elim (v .wins .holds) [
+        | inl h ↦ omega (arith, v .code-is, delay-up-to f latency (v .why) h)
+        | inr h ↦
+            omega (arith, v .code-is, from-or {n = 9} (from-when LARGE (lit≤ tt)) (from-when ROOM (lit≤ tt)) (v .why) h)
+      ]
+  behind-bounded (Outcome.answered v) e = omega (arith, v .code-is)
+
+  -- and a pure delay is clear of all but what the curve and its own latency say
+  pub delay-clear : Clear (curveLines f) → latency < 2 ^ 20 → Clear (portLines f (pureDelay latency))
+  delay-clear curve ranged = clear-or (clear-or curve (λ r h. h .1 ranged)) (λ r h. h .1)

@@ -5,27 +5,26 @@
 use mathlib.Core.Path.{refl, subst, sym, _∙_}
 use mathlib.Core.Logic.{_⊎_, inl, inr, ⊎-elim, Dec·not}
 use mathlib.Core.List.{List, [], _∷_}
-use Prim.Native.Nat.{ℕ, suc, _%_, _^_, _≤_, _<_}
+use Prim.Native.Nat.{ℕ, suc, _%_, _^_, _≤_}
 use native.Mathlib.Nat.{mul-le-mul}
 use native.Mathlib.Decide.{decLe, ℕ-discrete}
 use native.Mathlib.Omega.{arith}
 use lib.ListN.{length, length-append}
 use lib.Dec.{lit≤}
 use Rattle.meaning.specs.Curve.{Bucket, buckets, width, curveOf, listOf, reads, value, NormalOf, linkBucket}
-use Rattle.meaning.specs.Server.{Server, noServer, join, last}
+use Rattle.meaning.specs.Server.{Server, rated, pureDelay, noServer, join, last}
 use Rattle.meaning.specs.CurveQuestions.{normalising, lowering, summing, shaping, ValueOutcome, BurstOutcome}
 use Rattle.meaning.specs.Refusal.{Refusal, LIST, COUNT, RANGE, FORM, UNBOUNDED, LARGE, number, Lines, _when_, _or_, Clear, Verdict, accepted, rejected, TooLarge, listLines, curveLines, Question, Outcome, part, PartOutcome, FigureOutcome, BytesQuestion, BytesOutcome}
-use Rattle.meaning.specs.ServerQuestions.{ServerInRange, serverLines, portLines, passing, BacklogOutcome, DelayOutcome, HopFigures, HopOutcome, HopPartOutcome, ServerOutcome, JoinOutcome, ResidualOutcome}
+use Rattle.meaning.specs.ServerQuestions.{ServerInRange, serverLines, Outruns, portLines, passing, BacklogOutcome, DelayOutcome, HopFigures, HopOutcome, HopPartOutcome, ServerOutcome, JoinOutcome, ResidualOutcome}
 use Rattle.meaning.specs.Computed.{earlier, normal, behind, backlog, delay, residual}
-use Rattle.meaning.proofs.Order.{le-or-lt, not-above}
+use Rattle.meaning.proofs.Order.{le-or-lt}
 use Rattle.meaning.proofs.curve.Reads.{reads-at-zero}
 use Rattle.meaning.proofs.curve.Unique.{normal-of-unique}
 use Rattle.meaning.proofs.outcome.Stable.{decide-all-in-range, decide-server, decide-normal}
 use Rattle.meaning.proofs.curve.Normal.{normal-is}
 use Rattle.meaning.proofs.curve.Curves.{pairs-length}
-use Rattle.meaning.proofs.server.Behind.{behind-is, backlog-is}
-use Rattle.meaning.proofs.server.Delay.{delay-is}
-use Rattle.meaning.proofs.server.Joining.{residual-is, residual-unique}
+use Rattle.meaning.proofs.server.BothKinds.{KeepsUp, keeps-up, behind-is, backlog-is, SomeRate, ranged-rate, delay-is, left-unique}
+use Rattle.meaning.proofs.server.Joining.{residual-is}
 use Rattle.meaning.proofs.outcome.Answers.{raw-some, clear-form, both-form, list-up-to, curve-up-to, in-part}
 use Rattle.meaning.proofs.outcome.Demands.{hop-refused, hop-answered, port-form, port-server, port-bounded, single-behind, server-up-to, port-up-to, server-refused}
 use Rattle.meaning.proofs.outcome.Outcomes.{number-positive, Single, UpTo, up-to-or, up-to-when, line-hit, line-miss, clear-or, refused-then, verdict-or, refusal, refuse, too-large, no-room, written-out}
@@ -292,14 +291,22 @@ burst-has-outcome f =
 
 -- ---- The operations over servers.
 
-module _ (f : List ℕ) (s : Server) where
-  -- the last rate is above R, or it is not
-  bounded : Dec (s .rate < last (curveOf f) .rate)
-  bounded = decLe (suc (s .rate)) (last (curveOf f) .rate)
+-- a curve outruns a server, or it does not
+pub decide-outruns : (f : List Bucket) (s : Server) → Dec (Outruns f s)
+decide-outruns f (rated s) = decLe (suc (s .rate)) (last f .rate)
+decide-outruns f (pureDelay latency) = no (λ h. h)
 
-  -- where no line holds it is not
-  last-bounded : Clear (portLines f s) → last (curveOf f) .rate ≤ s .rate
-  last-bounded clear = not-above (port-bounded f s clear)
+module _ (f : List ℕ) (s : Server) where
+  -- where no line holds the server keeps up
+  bounded : Dec (Outruns (curveOf f) s)
+  bounded = decide-outruns (curveOf f) s
+
+  last-bounded : Clear (portLines f s) → KeepsUp (curveOf f) s
+  last-bounded clear = keeps-up (curveOf f) s (port-bounded f s clear)
+
+  -- and has a rate, if it is to have one
+  has-rate : Clear (portLines f s) → SomeRate s
+  has-rate clear = ranged-rate s (port-server f s clear)
 
   -- behind has an outcome over every lent list,
   pub behind-has-outcome : (before : List ℕ) → HasOutcome (passing f s) before
@@ -320,7 +327,7 @@ module _ (f : List ℕ) (s : Server) where
   unfolding DelayOutcome
   delay-has-outcome =
       figure-outcome (port-decided f s bounded)
-      (λ clear. (delay (curveOf f) s, delay-is s (port-form f s clear) (last-bounded clear) (port-server f s clear .rate-some)))
+      (λ clear. (delay (curveOf f) s, delay-is s (port-form f s clear) (last-bounded clear) (has-rate clear)))
 
   -- so a hop has what it reports, whatever the code of behind,
   hop-report : {before after : List ℕ} {code count : ℕ} → Outcome (passing f s) before after code count → HasReport f s code
@@ -340,7 +347,7 @@ module _ (f : List ℕ) (s : Server) where
         through = s;
         figures =
             hop-answered f s (v .code-is) (backlog-is (curveOf f) s (port-form f s clear) (last-bounded clear))
-            (delay-is s (port-form f s clear) (last-bounded clear) (port-server f s clear .rate-some));
+            (delay-is s (port-form f s clear) (last-bounded clear) (has-rate clear));
       }
 
   -- and an outcome over every lent list
@@ -372,12 +379,18 @@ module _ (f : List ℕ) (s : Server) where
         outcome = record { curve = in-part (o .outcome .curve); figures = o .outcome .figures };
       }
 
-  -- residual has one,
-  pub residual-has-outcome : HasServer (ResidualOutcome f s)
-  unfolding ResidualOutcome
-  residual-has-outcome =
-      server-outcome (port-decided f s (decLe (s .rate) (last (curveOf f) .rate))) (port-up-to f s) (λ x y. residual-unique)
-      (λ clear. (residual (curveOf f) s, residual-is (curveOf f) s (port-server f s clear .rate-some)))
+-- residual has one,
+pub residual-has-outcome : (f : List ℕ) (s : Server) → HasServer (ResidualOutcome f s)
+unfolding ResidualOutcome number
+residual-has-outcome f (rated s) =
+    server-outcome (port-decided f (rated s) (decLe (s .rate) (last (curveOf f) .rate))) (port-up-to f (rated s))
+    (left-unique (curveOf f) (rated s))
+    (λ clear. (rated (residual (curveOf f) s), residual-is (curveOf f) s (port-server f (rated s) clear .rate-some)))
+residual-has-outcome f (pureDelay latency) =
+    server-outcome
+    (decide-or (decide-or (curve-decided f) (server-decided (pureDelay latency))) (decide-line RANGE (yes tt)))
+    (up-to-or (up-to-or (curve-up-to f) (server-up-to (pureDelay latency))) (up-to-when RANGE (lit≤ tt)))
+    (left-unique (curveOf f) (pureDelay latency)) (λ clear. absurd (clear RANGE (inr (refl, tt))))
 
 -- and join has one
 pub join-has-outcome : (s next : Server) → HasServer (JoinOutcome s next)

@@ -20,8 +20,7 @@ use Rattle.meaning.proofs.Lists.{curve-list, list-length, EachInRange, 
 use Rattle.meaning.proofs.Figures.{table}
 use Rattle.meaning.proofs.curve.Value.{value-least}
 use Rattle.meaning.proofs.curve.Curves.{value-both}
-use Rattle.meaning.proofs.server.Behind.{backlog-rises}
-use Rattle.meaning.proofs.server.Delay.{delay-rises}
+use Rattle.meaning.proofs.server.BothKinds.{backlog-rises, delay-rises}
 use Rattle.meaning.proofs.outcome.Outcomes.{clear-or, From, from-when, up-to-when, asked-as}
 use Rattle.meaning.proofs.outcome.Answers.{shaping-asks, outcome-code, code-zero, code-wins, clear-form, clear-list, clear-fits, fits-few, fits-ranged, readBack, answered-list, figure-answered, shape-answers, link-clear, sound-clear, OnlyAnswer, only-answered, only-answer}
 use Rattle.meaning.proofs.outcome.Known.{c-clear}
@@ -109,7 +108,7 @@ module _
     pub longer-frame-delay :
         (s : Server) {n n′ : ℕ} → DelayOutcome (readBack after count) s 0 n → DelayOutcome (readBack after′ count′) s 0 n′ → n ≤ n′
     unfolding DelayOutcome
-    longer-frame-delay s d d′ = delay-rises _ _ s longer-read (figure-answered d .1) (figure-answered d′ .1)
+    longer-frame-delay s d d′ = delay-rises _ _ longer-read (figure-answered d .1) (figure-answered d′ .1)
 
 -- ---- Said in two other ways.
 

@@ -7,7 +7,7 @@ use native.Mathlib.Omega.{arith}
 use lib.Dec.{lit≤}
 use lib.ListN.{length}
 use Rattle.meaning.specs.Curve.{Bucket, buckets, curveOf, listOf, NormalForm}
-use Rattle.meaning.specs.Server.{Server, noServer, join, last, Behind, Backlog, Delay, Residual, port}
+use Rattle.meaning.specs.Server.{Server, noServer, joinRated, join, last, Behind, Backlog, Delay, Residual, port}
 use Rattle.meaning.specs.Refusal.{LARGE, number, Clear, accepted, curveLines, over, Outcome, FigureOutcome}
 use Rattle.meaning.specs.ServerQuestions.{ServerInRange, portLines, passing, BacklogOutcome, DelayOutcome, HopOutcome, ServerOutcome, JoinOutcome, ResidualOutcome}
 use Rattle.meaning.specs.Computed.{isNormal}
@@ -15,7 +15,7 @@ use Rattle.meaning.specs.Figures.{C}
 use Rattle.meaning.proofs.Lists.{curve-list, EachInRange, all-in-range}
 use Rattle.meaning.proofs.Figures.{table}
 use Rattle.meaning.proofs.curve.Neighbours.{neighbours-sound}
-use Rattle.meaning.proofs.server.Joining.{residual-unique}
+use Rattle.meaning.proofs.server.BothKinds.{KeepsUp, not-outrun, left-unique}
 use Rattle.meaning.proofs.outcome.Outcomes.{Same, clear-or, line-hit, refused-then, refusal}
 use Rattle.meaning.proofs.outcome.Answers.{sound-clear, OnlyAnswer, is-answered, only-single}
 use Rattle.meaning.proofs.outcome.Known.{c-clear}
@@ -38,13 +38,14 @@ OnlyHop f s numbers count backlog delay =
 
 -- A curve in normal form that is not too large, at a server in range whose rate the last one is not above:
 module _
-    {f : List Bucket} {s : Server} (form : NormalForm f) (fits : (length f ≤ 64) × EachInRange f) (ranged : ServerInRange s)
-    (bounded : last f .rate ≤ s .rate)
+    {f : List Bucket} (s : Server) (form : NormalForm f) (fits : (length f ≤ 64) × EachInRange f) (ranged : ServerInRange s)
+    (bounded : KeepsUp f s)
   where
     -- no line holds,
     pub known-clear : Clear (portLines (listOf f) s)
     known-clear =
-        clear-or (clear-or (sound-clear f form (all-in-range f (fits .1)) (fits .0)) (λ r h. h .1 ranged)) (λ r h. omega (arith, rw curve-list at (h .1)))
+        clear-or (clear-or (sound-clear f form (all-in-range f (fits .1)) (fits .0)) (λ r h. h .1 ranged))
+        (λ r h. not-outrun f s bounded (rw curve-list at (h .1)))
 
     module _ {g : List Bucket} (right : Behind f s g) (small : (length g ≤ 64) × EachInRange g) where
       behind-right : passing (listOf f) s .Answer g
@@ -80,9 +81,10 @@ module _
     only-delay d code figure o = one-delay (listOf f) s o (FigureOutcome.answered known-clear refl (rw curve-list d))
 
 -- two servers in range whose joined one is in range are joined
-join-answered : {s next : Server} → ServerInRange s → ServerInRange next → ServerInRange (join s next) → JoinOutcome s next 0 (join s next)
+pub join-answered :
+    (s next : Server) → ServerInRange s → ServerInRange next → ServerInRange (join s next) → JoinOutcome s next 0 (join s next)
 unfolding JoinOutcome
-join-answered first second joined =
+join-answered s next first second joined =
     ServerOutcome.answered
     (clear-or (clear-or (λ r h. h .1 first) (λ r h. h .1 second)) (λ r h. h .1 .2 (rw (h .1 .1) joined))) refl refl
 
@@ -108,66 +110,66 @@ one-form r b = neighbours-sound (one r b) refl
 
 pub p5-outcome : OnlyAnswer (passing (listOf C) (port 6 1)) (listOf (buckets (6 ∷ 17 ∷ 3 ∷ 23 ∷ []))) 2
 unfolding buckets last
-p5-outcome = only-behind c-form c-fits (omega arith) (lit≤ tt) (table .p5 .0) (omega arith)
+p5-outcome = only-behind (port 6 1) c-form c-fits (omega arith) (lit≤ tt) (table .p5 .0) (omega arith)
 
 pub p5-backlog : OnlyFigure (BacklogOutcome (listOf C) (port 6 1)) 17
 unfolding buckets last
-p5-backlog = only-backlog c-form c-fits (omega arith) (lit≤ tt) (table .p5 .1)
+p5-backlog = only-backlog (port 6 1) c-form c-fits (omega arith) (lit≤ tt) (table .p5 .1)
 
 pub p5-delay : OnlyFigure (DelayOutcome (listOf C) (port 6 1)) 3
 unfolding buckets last
-p5-delay = only-delay c-form c-fits (omega arith) (lit≤ tt) (table .p5 .2)
+p5-delay = only-delay (port 6 1) c-form c-fits (omega arith) (lit≤ tt) (table .p5 .2)
 
 -- ---- P6: C behind (6,4) is (3,32); backlog 32, delay 6; so the hop leaves all three.
 
 pub p6-outcome : OnlyAnswer (passing (listOf C) (port 6 4)) (listOf (buckets (3 ∷ 32 ∷ []))) 1
 unfolding buckets last
-p6-outcome = only-behind c-form c-fits (omega arith) (lit≤ tt) (table .p6 .0) (omega arith)
+p6-outcome = only-behind (port 6 4) c-form c-fits (omega arith) (lit≤ tt) (table .p6 .0) (omega arith)
 
 pub p6-backlog : OnlyFigure (BacklogOutcome (listOf C) (port 6 4)) 32
 unfolding buckets last
-p6-backlog = only-backlog c-form c-fits (omega arith) (lit≤ tt) (table .p6 .1)
+p6-backlog = only-backlog (port 6 4) c-form c-fits (omega arith) (lit≤ tt) (table .p6 .1)
 
 pub p6-delay : OnlyFigure (DelayOutcome (listOf C) (port 6 4)) 6
 unfolding buckets last
-p6-delay = only-delay c-form c-fits (omega arith) (lit≤ tt) (table .p6 .2)
+p6-delay = only-delay (port 6 4) c-form c-fits (omega arith) (lit≤ tt) (table .p6 .2)
 
 pub p6-hop : OnlyHop (listOf C) (port 6 4) (listOf (buckets (3 ∷ 32 ∷ []))) 1 32 6
 unfolding buckets last
-p6-hop = only-hop c-form c-fits (omega arith) (lit≤ tt) (table .p6 .0) (omega arith) (table .p6 .1) (table .p6 .2)
+p6-hop = only-hop (port 6 4) c-form c-fits (omega arith) (lit≤ tt) (table .p6 .0) (omega arith) (table .p6 .1) (table .p6 .2)
 
 -- ---- P7: the next hop, at (5,2), leaves (3,38), and so does C at the two joined, (5,6); the delays are 6, 9, and joined 9.
 
 pub p7-outcome : OnlyAnswer (passing (listOf (buckets (3 ∷ 32 ∷ []))) (port 5 2)) (listOf (buckets (3 ∷ 38 ∷ []))) 1
 unfolding buckets last
-p7-outcome = only-behind (one-form 3 32) (omega arith) (omega arith) (lit≤ tt) (table .p7 .0) (omega arith)
+p7-outcome = only-behind (port 5 2) (one-form 3 32) (omega arith) (omega arith) (lit≤ tt) (table .p7 .0) (omega arith)
 
 pub p7-second-delay : OnlyFigure (DelayOutcome (listOf (buckets (3 ∷ 32 ∷ []))) (port 5 2)) 9
 unfolding buckets last
-p7-second-delay = only-delay (one-form 3 32) (omega arith) (omega arith) (lit≤ tt) (table .p7 .4)
+p7-second-delay = only-delay (port 5 2) (one-form 3 32) (omega arith) (omega arith) (lit≤ tt) (table .p7 .4)
 
 -- the server joined
 pub p7-join : OnlyServer (JoinOutcome (port 6 4) (port 5 2)) 0 (port 5 6)
-unfolding JoinOutcome join
-p7-join code s o = one-join (port 6 4) (port 5 2) o (join-answered (omega arith) (omega arith) (omega arith))
+unfolding JoinOutcome join joinRated
+p7-join code s o = one-join (port 6 4) (port 5 2) o (join-answered (port 6 4) (port 5 2) (omega arith) (omega arith) (omega arith))
 
 pub p7-joined-outcome : OnlyAnswer (passing (listOf C) (port 5 6)) (listOf (buckets (3 ∷ 38 ∷ []))) 1
 unfolding buckets last
-p7-joined-outcome = only-behind c-form c-fits (omega arith) (lit≤ tt) (table .p7 .2) (omega arith)
+p7-joined-outcome = only-behind (port 5 6) c-form c-fits (omega arith) (lit≤ tt) (table .p7 .2) (omega arith)
 
 pub p7-joined-delay : OnlyFigure (DelayOutcome (listOf C) (port 5 6)) 9
 unfolding buckets last
-p7-joined-delay = only-delay c-form c-fits (omega arith) (lit≤ tt) (table .p7 .3)
+p7-joined-delay = only-delay (port 5 6) c-form c-fits (omega arith) (lit≤ tt) (table .p7 .3)
 
 -- ---- P8: at (5,2), {(5,7)} leaves (5,17) and has delay 4, and {(6,7)} is refused with 8.
 
 pub p8-outcome : OnlyAnswer (passing (listOf (buckets (5 ∷ 7 ∷ []))) (port 5 2)) (listOf (buckets (5 ∷ 17 ∷ []))) 1
 unfolding buckets last
-p8-outcome = only-behind (one-form 5 7) (omega arith) (omega arith) (lit≤ tt) (table .p8 .0) (omega arith)
+p8-outcome = only-behind (port 5 2) (one-form 5 7) (omega arith) (omega arith) (lit≤ tt) (table .p8 .0) (omega arith)
 
 pub p8-delay : OnlyFigure (DelayOutcome (listOf (buckets (5 ∷ 7 ∷ []))) (port 5 2)) 4
 unfolding buckets last
-p8-delay = only-delay (one-form 5 7) (omega arith) (omega arith) (lit≤ tt) (table .p8 .1)
+p8-delay = only-delay (port 5 2) (one-form 5 7) (omega arith) (omega arith) (lit≤ tt) (table .p8 .1)
 
 -- no line of the curve holds, and the last rate is above R
 steep-clear : Clear (curveLines (listOf (buckets (6 ∷ 7 ∷ []))))
@@ -195,19 +197,19 @@ p8-refused-delay o = unbounded-delay (listOf (buckets (6 ∷ 7 ∷ []))) (port 5
 
 pub p9-nothing-backlog : OnlyFigure (BacklogOutcome (listOf (buckets (0 ∷ 0 ∷ []))) (port 5 2)) 0
 unfolding buckets last
-p9-nothing-backlog = only-backlog (one-form 0 0) (omega arith) (omega arith) (lit≤ tt) (table .p9 .0)
+p9-nothing-backlog = only-backlog (port 5 2) (one-form 0 0) (omega arith) (omega arith) (lit≤ tt) (table .p9 .0)
 
 pub p9-nothing-delay : OnlyFigure (DelayOutcome (listOf (buckets (0 ∷ 0 ∷ []))) (port 5 2)) 0
 unfolding buckets last
-p9-nothing-delay = only-delay (one-form 0 0) (omega arith) (omega arith) (lit≤ tt) (table .p9 .1)
+p9-nothing-delay = only-delay (port 5 2) (one-form 0 0) (omega arith) (omega arith) (lit≤ tt) (table .p9 .1)
 
 pub p9-backlog : OnlyFigure (BacklogOutcome (listOf (buckets (5 ∷ 0 ∷ []))) (port 10 3)) 15
 unfolding buckets last
-p9-backlog = only-backlog (one-form 5 0) (omega arith) (omega arith) (lit≤ tt) (table .p9 .2)
+p9-backlog = only-backlog (port 10 3) (one-form 5 0) (omega arith) (omega arith) (lit≤ tt) (table .p9 .2)
 
 pub p9-delay : OnlyFigure (DelayOutcome (listOf (buckets (5 ∷ 0 ∷ []))) (port 10 3)) 3
 unfolding buckets last
-p9-delay = only-delay (one-form 5 0) (omega arith) (omega arith) (lit≤ tt) (table .p9 .3)
+p9-delay = only-delay (port 10 3) (one-form 5 0) (omega arith) (omega arith) (lit≤ tt) (table .p9 .3)
 
 -- ---- P10: residual of (6,1) beside C is (3,5).
 
@@ -218,7 +220,7 @@ p10-outcome code left o =
     (ServerOutcome.answered
     (clear-or
     (clear-or (clear-or c-clear (λ r h. h .1 (omega arith))) (λ r h. omega (arith, rw curve-list at (h .1))))
-    (λ r h. h .1 .2 (rw (residual-unique (h .1 .1) right) (omega arith))))
+    (λ r h. h .1 .2 (rw (left-unique (curveOf (listOf C)) (port 6 1) (h .1 .0) (port 3 5) (h .1 .1) right) (omega arith))))
     refl
     right)
   where
@@ -228,12 +230,12 @@ p10-outcome code left o =
 -- ---- Joined at the end of the latencies: 2^20-1 and 0 are answered, 2^20-1 and 1 are refused with 9.
 
 pub join-longest : OnlyServer (JoinOutcome (port 1 (2 ^ 20 - 1)) (port 1 0)) 0 (port 1 (2 ^ 20 - 1))
-unfolding JoinOutcome join
+unfolding JoinOutcome join joinRated
 join-longest code s o =
-    one-join (port 1 (2 ^ 20 - 1)) (port 1 0) o (join-answered (omega arith) (omega arith) (omega arith))
+    one-join (port 1 (2 ^ 20 - 1)) (port 1 0) o (join-answered (port 1 (2 ^ 20 - 1)) (port 1 0) (omega arith) (omega arith) (omega arith))
 
 pub join-too-long : OnlyServer (JoinOutcome (port 1 (2 ^ 20 - 1)) (port 1 1)) 9 noServer
-unfolding JoinOutcome join number
+unfolding JoinOutcome join joinRated number
 join-too-long code s o =
     one-join (port 1 (2 ^ 20 - 1)) (port 1 1) o
     (ServerOutcome.refused

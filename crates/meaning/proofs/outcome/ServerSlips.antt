@@ -9,19 +9,17 @@ use native.Mathlib.Omega.{arith}
 use lib.Dec.{lit≤}
 use lib.ListN.{length, take, getD}
 use Rattle.meaning.specs.Curve.{Bucket, buckets, flat, curveOf, listOf, NormalForm, reads, valueAt}
-use Rattle.meaning.specs.Server.{Server, join, last, slower, port}
+use Rattle.meaning.specs.Server.{RateLatency, Server, rated, numbersOf, joinRated, join, last, slower, port}
 use Rattle.meaning.specs.Refusal.{Clear, curveLines, over, Question, Outcome}
-use Rattle.meaning.specs.ServerQuestions.{ServerInRange, portLines, passing, BacklogOutcome, DelayOutcome, JoinOutcome, ResidualOutcome}
+use Rattle.meaning.specs.ServerQuestions.{RatedInRange, portLines, passing, BacklogOutcome, DelayOutcome, JoinOutcome, ResidualOutcome}
 use Rattle.meaning.specs.Computed.{isNormal, normal, behind, backlog}
 use Rattle.meaning.specs.Figures.{C}
 use Rattle.meaning.proofs.Lists.{over-start}
 use Rattle.meaning.proofs.curve.Neighbours.{neighbours-sound}
-use Rattle.meaning.proofs.server.Behind.{behind-is, backlog-is}
-use Rattle.meaning.proofs.server.Delay.{delay-of-nothing}
-use Rattle.meaning.proofs.server.Joining.{smallest-unique}
+use Rattle.meaning.proofs.server.BothKinds.{behind-is, backlog-is, delay-unique, delay-of-nothing}
 use Rattle.meaning.proofs.outcome.Outcomes.{clear-or}
 use Rattle.meaning.proofs.outcome.Answers.{OnlyAnswer, only-answered, figure-code, code-zero, figure-answered}
-use Rattle.meaning.proofs.outcome.Demands.{port-form, answered-join, unbounded-residual}
+use Rattle.meaning.proofs.outcome.Demands.{answered-join, unbounded-residual}
 use Rattle.meaning.proofs.outcome.KnownServers.{OnlyFigure, only-behind, only-backlog, p5-outcome, p5-backlog, p5-delay, p6-outcome, p10-outcome}
 
 -- a list of the right length that is not the only answer is not answered
@@ -67,12 +65,12 @@ early-form = neighbours-sound early refl
 pub early-outcome : OnlyAnswer (passing (listOf early) (port 6 1)) (listOf (buckets (6 ∷ 16 ∷ 3 ∷ 20 ∷ []))) 2
 unfolding buckets last behind normal slower reads valueAt
 early-outcome =
-    only-behind early-form (omega arith) (omega arith) (lit≤ tt) (behind-is early (port 6 1) early-form (lit≤ tt)) (omega arith)
+    only-behind (port 6 1) early-form (omega arith) (omega arith) (lit≤ tt) (behind-is early (port 6 1) early-form (lit≤ tt)) (omega arith)
 
 pub early-backlog : OnlyFigure (BacklogOutcome (listOf early) (port 6 1)) 16
 unfolding buckets last backlog behind normal slower reads valueAt
 early-backlog =
-    only-backlog early-form (omega arith) (omega arith) (lit≤ tt) (backlog-is early (port 6 1) early-form (lit≤ tt))
+    only-backlog (port 6 1) early-form (omega arith) (omega arith) (lit≤ tt) (backlog-is early (port 6 1) early-form (lit≤ tt))
 
 pub excess-after-only :
     {before : List ℕ} → Outcome (passing (listOf early) (port 6 1)) before (over (listOf (buckets (6 ∷ 14 ∷ 3 ∷ 20 ∷ []))) before) 0 2 → ⊥
@@ -103,7 +101,7 @@ pub latency-charged : (f : List ℕ) (s : Server) {d : ℕ} → reads (curveOf f
 unfolding DelayOutcome
 latency-charged f s none o =
     let known = figure-answered o in
-    smallest-unique (known .1) (delay-of-nothing (curveOf f) s (port-form f s (known .0) .some) none)
+    delay-unique (known .1) (delay-of-nothing (curveOf f) s none)
 
 -- P9: {(0,0)} with (5,2)
 pub latency-charged-to-nothing : DelayOutcome (listOf (buckets (0 ∷ 0 ∷ []))) (port 5 2) 0 2 → ⊥
@@ -113,7 +111,7 @@ latency-charged-to-nothing o = omega (arith, latency-charged (0 ∷ 0 ∷ []) (p
 -- ---- The residual's quotient rounded down: P10 with latency 1 + 3.
 
 pub residual-rounded-down : ResidualOutcome (listOf C) (port 6 1) 0 (port 3 4) → ⊥
-residual-rounded-down o = omega (arith, ap (λ (s : Server). s .latency) (p10-outcome 0 (port 3 4) o .1))
+residual-rounded-down o = omega (arith, ap (λ (s : Server). numbersOf s .latency) (p10-outcome 0 (port 3 4) o .1))
 
 -- ---- A behind that hands its curve back: P6 with C.
 
@@ -122,32 +120,37 @@ behind-handed-back o = omega (arith, only-answered p6-outcome o .figure-same)
 
 -- ---- A join that takes the larger rate.
 
--- the joined rate is the smaller,
-pub joined-rate : (s next joined : Server) → JoinOutcome s next 0 joined → joined .rate ≡ min (s .rate) (next .rate)
-unfolding join
-joined-rate s next joined o = ap (λ (x : Server). x .rate) (answered-join s next o .definition)
+-- the joined rate of two rate-latency servers is the smaller,
+pub joined-rate :
+    (s next : RateLatency) (joined : Server) → JoinOutcome (rated s) (rated next) 0 joined
+    → numbersOf joined .rate ≡ min (s .rate) (next .rate)
+unfolding join joinRated
+joined-rate s next joined o = ap (λ (x : Server). numbersOf x .rate) (answered-join (rated s) (rated next) o .definition)
 
 -- so not the larger of two that differ
 pub join-larger-rate :
-    (s next joined : Server) → next .rate < s .rate → joined .rate ≡ s .rate → JoinOutcome s next 0 joined → ⊥
+    (s next : RateLatency) (joined : Server)
+    → next .rate < s .rate → numbersOf joined .rate ≡ s .rate → JoinOutcome (rated s) (rated next) 0 joined → ⊥
 join-larger-rate s next joined slow is o = omega (arith, is, joined-rate s next joined o)
 
 -- ---- A last rate equal to R.
 
-module _ (f : List ℕ) (s : Server) (curve : Clear (curveLines f)) (server : ServerInRange s) (same : last (curveOf f) .rate ≡ s .rate) where
-  same-clear : Clear (portLines f s)
-  same-clear = clear-or (clear-or curve (λ r h. h .1 server)) (λ r h. omega (arith, h .1))
+module _
+    (f : List ℕ) (s : RateLatency) (curve : Clear (curveLines f)) (server : RatedInRange s) (same : last (curveOf f) .rate ≡ s .rate)
+  where
+    same-clear : Clear (portLines f (rated s))
+    same-clear = clear-or (clear-or curve (λ r h. h .1 server)) (λ r h. omega (arith, h .1))
 
-  -- refused by delay: it is not,
-  pub equal-rate-delayed : (code d : ℕ) → DelayOutcome f s code d → code ≡ 0
-  unfolding DelayOutcome
-  equal-rate-delayed code d o = code-zero (figure-code o) .1 same-clear
+    -- refused by delay: it is not,
+    pub equal-rate-delayed : (code d : ℕ) → DelayOutcome f (rated s) code d → code ≡ 0
+    unfolding DelayOutcome
+    equal-rate-delayed code d o = code-zero (figure-code o) .1 same-clear
 
-  -- nor by backlog;
-  pub equal-rate-held : (code n : ℕ) → BacklogOutcome f s code n → code ≡ 0
-  unfolding BacklogOutcome
-  equal-rate-held code n o = code-zero (figure-code o) .1 same-clear
+    -- nor by backlog;
+    pub equal-rate-held : (code n : ℕ) → BacklogOutcome f (rated s) code n → code ≡ 0
+    unfolding BacklogOutcome
+    equal-rate-held code n o = code-zero (figure-code o) .1 same-clear
 
-  -- taken by residual: it is 8 there
-  pub equal-rate-left : (code : ℕ) (left : Server) → ResidualOutcome f s code left → code ≡ 8
-  equal-rate-left code left o = unbounded-residual f s curve server (omega arith) o .0
+    -- taken by residual: it is 8 there
+    pub equal-rate-left : (code : ℕ) (left : Server) → ResidualOutcome f (rated s) code left → code ≡ 8
+    equal-rate-left code left o = unbounded-residual f s curve server (omega arith) o .0

@@ -11,7 +11,7 @@ use Prim.Native.Nat.{suc, _^_}
 use native.Mathlib.Decide.{decLe, map-dec}
 use native.Mathlib.Omega.{arith}
 use Rattle.meaning.specs.Curve.{Bucket, NormalForm}
-use Rattle.meaning.specs.Server.{Server}
+use Rattle.meaning.specs.Server.{Server, rated, pureDelay}
 use Rattle.meaning.specs.Refusal.{InRange, AllInRange}
 use Rattle.meaning.specs.ServerQuestions.{ServerInRange}
 use Rattle.meaning.specs.Computed.{isNormal}
@@ -32,9 +32,10 @@ decide-all-in-range (j ∷ f) =
 
 -- a server is in range or it is not
 pub decide-server : (s : Server) → Dec (ServerInRange s)
-decide-server s =
+decide-server (rated s) =
     map-dec (λ h. omega arith) (λ r. omega arith)
     (Dec·and (decLe 1 (s .rate)) (Dec·and (decLe (suc (s .rate)) (2 ^ 20)) (decLe (suc (s .latency)) (2 ^ 20))))
+decide-server (pureDelay latency) = decLe (suc latency) (2 ^ 20)
 
 -- a list is in normal form or it is not
 pub decide-normal : (f : List Bucket) → Dec (NormalForm f)
@@ -49,8 +50,8 @@ pub range-stable : {f : List Bucket} → ((AllInRange f → ⊥) → ⊥) → Al
 range-stable {f} = dec→stable (decide-all-in-range f)
 
 -- so is a server
-pub server-stable : {s : Server} → ((ServerInRange s → ⊥) → ⊥) → ServerInRange s
-server-stable {s} = dec→stable (decide-server s)
+pub server-stable : (s : Server) → ((ServerInRange s → ⊥) → ⊥) → ServerInRange s
+server-stable s = dec→stable (decide-server s)
 
 -- a list that is not out of normal form is in normal form
 pub normal-stable : {f : List Bucket} → ((NormalForm f → ⊥) → ⊥) → NormalForm f

@@ -1,98 +1,121 @@
--- Demand 2 for profile files, in what a caller has in hand. A curve or a server that is written, read again from the bytes that
--- were written, is the same; a file that is read, written again, has the same bytes. Where there is room nothing is refused, and
--- 482 bytes and 128 numbers are room for every profile.
+-- Demand 2 for profile files of both editions, in what a caller has in hand. A curve or a server that is written, read again from the
+-- bytes that were written, is the same; a file that is read, written again in the edition that the reader tells, has the same bytes.
+-- Where there is room nothing is refused, and 482 bytes and 128 numbers are room for every profile.
 -- Assumes nothing.
-use mathlib.Core.Path.{_≡_, refl, sym, _∙_, ap, subst}
-use mathlib.Core.Logic.{inr, _≢_}
+use mathlib.Core.Path.{_≡_, refl, sym, _∙_, ap, ap₂, subst}
+use mathlib.Core.Logic.{inl, inr, _≢_}
+use mathlib.Core.HLevel.{dec→stable}
 use mathlib.Core.List.{List}
 use Prim.Native.Nat.{ℕ, _*_, _≤_, _<_}
 use native.Mathlib.Omega.{arith}
+use lib.Dec.{lit≤}
 use lib.ListN.{length, take}
 use Rattle.meaning.specs.Curve.{Bucket, width, curveOf, listOf, NormalForm}
-use Rattle.meaning.specs.Server.{Server, noServer}
-use Rattle.meaning.specs.Refusal.{Refusal, RANGE, FORM, number, Lines, Wins, Clear, accepted, rejected, curveLines, over, BytesOutcome}
+use Rattle.meaning.specs.Server.{Server, rated, pureDelay, noServer, numbersOf}
+use Rattle.meaning.specs.Refusal.{Refusal, HEADER, RANGE, FORM, number, Lines, _or_, Wins, Clear, accepted, rejected, curveLines, over, BytesOutcome}
 use Rattle.meaning.specs.ServerQuestions.{serverLines}
-use Rattle.meaning.specs.Profile.{edition, curveKind, serverKind, Profile, curve, server, kindOf, written, profileOf, fileLines, bucketsOf, serverIn, Reading, ReadOutcome, writing, WriteCurveOutcome, WriteServerOutcome}
+use Rattle.meaning.specs.Profile.{curveKind, Profile, curve, server, kindOf, Known, written, editionOf, profileOf, fileLines, bucketsOf, serverIn, Reading, ReadOutcome, editionLines, writing, WriteCurveOutcome, WriteServerOutcome}
 use Rattle.meaning.proofs.Lists.{list-length, curve-list, over-start}
-use Rattle.meaning.proofs.outcome.Outcomes.{number-positive, Same, UpTo}
+use Rattle.meaning.proofs.outcome.Outcomes.{number-positive, Same, UpTo, up-to-when, up-to-or, clear-or}
 use Rattle.meaning.proofs.outcome.Stable.{server-stable, normal-stable}
 use Rattle.meaning.proofs.outcome.Answers.{clear-form, clear-fits, clear-list, fits-few, fits-ranged, curve-up-to, sound-clear, readBack}
 use Rattle.meaning.proofs.outcome.Demands.{server-up-to}
 use Rattle.meaning.proofs.outcome.Bytes.{OnlyBytes, only-bytes, bytes-wins, filled-read}
-use Rattle.meaning.proofs.outcome.EveryInput.{Decided, curve-decided, server-decided}
+use Rattle.meaning.proofs.outcome.EveryInput.{Decided, decide-or, curve-decided, server-decided}
 use Rattle.meaning.proofs.profile.Bits.{Bytes}
-use Rattle.meaning.proofs.profile.Files.{curve-bytes, server-bytes, held-few, read-in-range}
-use Rattle.meaning.proofs.profile.RoundTrip.{ReadsBack, read-back-curve, read-back-server, write-back}
+use Rattle.meaning.proofs.profile.Files.{byte-size, curve-bytes, server-bytes, held-kind, held-few, read-in-range}
+use Rattle.meaning.proofs.profile.RoundTrip.{RightHeader, decide-known, clear-header, ReadsBack, read-back-curve, read-back-server, write-back}
 use Rattle.meaning.proofs.profile.Outcomes.{writingCurve, writingServer, single-writing, SameReading, file-up-to, readAs, refusedAs, OnlyRead, only-server, only-read, only-refused, Read, read-file}
-use Rattle.meaning.proofs.profile.Decided.{file-decided}
+use Rattle.meaning.proofs.profile.Decided.{file-decided, edition-decided}
 
 -- ---- What is written.
 
--- A profile none of whose lines holds is written, given room.
-only-written : (operands : Lines) (p : Profile) → Clear operands → OnlyBytes (writing operands p) (written edition p)
+-- A profile none of whose lines holds is written in an edition that has its kind, given room.
+only-written :
+    (ed : ℕ) (operands : Lines) (p : Profile) → Known ed (kindOf p) → Clear operands
+    → OnlyBytes (writing ed operands p) (written ed p)
 unfolding writing
-only-written operands p clear = only-bytes (single-writing operands p) clear refl
+only-written ed operands p has clear =
+    only-bytes (single-writing ed operands p) (clear-or (λ r h. h .1 has) clear) refl
 
 -- a curve that no line refuses,
-pub curve-written : (l : List ℕ) → Clear (curveLines l) → OnlyBytes (writingCurve l) (written edition (curve (curveOf l)))
-curve-written l clear = only-written (curveLines l) (curve (curveOf l)) clear
+pub curve-written :
+    (ed : ℕ) → Known ed curveKind → (l : List ℕ) → Clear (curveLines l)
+    → OnlyBytes (writingCurve ed l) (written ed (curve (curveOf l)))
+curve-written ed has l clear = only-written ed (curveLines l) (curve (curveOf l)) has clear
 
 -- and a server that none refuses
-pub server-written : (s : Server) → Clear (serverLines s) → OnlyBytes (writingServer s) (written edition (server s))
-server-written s clear = only-written (serverLines s) (server s) clear
+pub server-written :
+    (ed : ℕ) (s : Server) → Known ed (kindOf (server s)) → Clear (serverLines s)
+    → OnlyBytes (writingServer ed s) (written ed (server s))
+server-written ed s has clear = only-written ed (serverLines s) (server s) has clear
 
--- what is written reads as the profile
-pub read-written : {p : Profile} → ReadsBack p → OnlyRead (written edition p) p
-read-written {p} back = subst (OnlyRead (written edition p)) (back .same) (only-read (written edition p) (back .clear))
+-- what is written reads as the profile, and as the edition
+pub read-written : {ed : ℕ} {p : Profile} → ReadsBack ed p → OnlyRead (written ed p) ed p
+read-written {ed} {p} back =
+    subst (λ (e : ℕ). OnlyRead (written ed p) e p) (back .edition-same)
+    (subst (OnlyRead (written ed p) (editionOf (written ed p))) (back .same) (only-read (written ed p) (back .clear)))
 
 -- a curve that no line refuses reads back,
-curve-back : (l : List ℕ) → Clear (curveLines l) → ReadsBack (curve (curveOf l))
-curve-back l clear =
+curve-back : (ed : ℕ) → Known ed curveKind → (l : List ℕ) → Clear (curveLines l) → ReadsBack ed (curve (curveOf l))
+curve-back ed has l clear =
     let fits = clear-fits l clear in
-    read-back-curve (curveOf l) (clear-form l clear) (fits-ranged fits) (fits-few fits)
+    read-back-curve ed has (curveOf l) (clear-form l clear) (fits-ranged fits) (fits-few fits)
 
 -- and a server that none refuses
-server-back : (s : Server) → Clear (serverLines s) → ReadsBack (server s)
-server-back s clear = read-back-server s (server-stable (λ out. clear RANGE (refl, out)))
+server-back : (ed : ℕ) (s : Server) → Known ed (kindOf (server s)) → Clear (serverLines s) → ReadsBack ed (server s)
+server-back ed s has clear = read-back-server ed s has (server-stable s (λ out. clear RANGE (refl, out)))
+
+-- an edition that no line refuses has the kind
+pub edition-has : (ed kind : ℕ) → Clear (editionLines ed kind) → Known ed kind
+edition-has ed kind clear = dec→stable (decide-known ed kind) (λ out. clear HEADER (refl, out))
 
 -- ---- Written, and read again.
 
--- A curve that is read again: code 0, kind 1, the same bucket count and no server; the same numbers stand from the list's start,
--- and those beyond stay.
-pub record CurveAgain (l before after : List ℕ) (x : Reading) : Type 0 where
+-- A curve that is read again: code 0, the edition in which it was written, kind 1, the same bucket count and no server; the same numbers
+-- stand from the list's start, and those beyond stay.
+pub record CurveAgain (ed : ℕ) (l before after : List ℕ) (x : Reading) : Type 0 where
   pub code-is : x .code ≡ 0
+  pub edition-is : x .edition ≡ ed
   pub kind-is : x .kind ≡ 1
   pub count-is : x .count ≡ length (curveOf l)
   pub no-server : x .server ≡ noServer
   pub numbers-are : readBack after (x .count) ≡ l
   pub list-is : after ≡ over l before
 
--- A server that is read again: code 0, kind 2, no bucket, the same rate and latency; the list stays.
-pub record ServerAgain (s : Server) (before after : List ℕ) (x : Reading) : Type 0 where
+-- A server that is read again: code 0, the edition, its kind, no bucket, the same server; the list stays.
+pub record ServerAgain (ed : ℕ) (s : Server) (before after : List ℕ) (x : Reading) : Type 0 where
   pub code-is : x .code ≡ 0
-  pub kind-is : x .kind ≡ 2
+  pub edition-is : x .edition ≡ ed
+  pub kind-is : x .kind ≡ numbersOf s .kind
   pub count-is : x .count ≡ 0
   pub server-is : x .server ≡ s
   pub list-stays : after ≡ before
 
 -- A curve that was written with code 0, and the bytes that were written read into a list:
-module _ (l : List ℕ) {buffer filled : List ℕ} {bytes : ℕ} (o : WriteCurveOutcome l buffer filled 0 bytes) where
+module _ (ed : ℕ) (l : List ℕ) {buffer filled : List ℕ} {bytes : ℕ} (o : WriteCurveOutcome ed l buffer filled 0 bytes) where
   -- no line held of it,
   curve-clear : Clear (curveLines l)
   unfolding writing
-  curve-clear = filled-read o .operands-clear
+  curve-clear r h = filled-read o .operands-clear r (inr h)
+
+  -- the edition has curves,
+  curve-known : Known ed curveKind
+  unfolding writing
+  curve-known = edition-has ed curveKind (λ r h. filled-read o .operands-clear r (inl h))
 
   -- and the bytes are its file
-  curve-file : OnlyRead (take bytes filled) (curve (curveOf l))
+  curve-file : OnlyRead (take bytes filled) ed (curve (curveOf l))
   unfolding writing
-  curve-file = rw (filled-read o .right) (read-written (curve-back l curve-clear))
+  curve-file = rw (filled-read o .right) (read-written (curve-back ed curve-known l curve-clear))
 
   module _ {before after : List ℕ} {x : Reading} (again : ReadOutcome (take bytes filled) before after x) where
     -- given room it comes back,
-    pub curve-again : length l ≤ length before → CurveAgain l before after x
+    pub curve-again : length l ≤ length before → CurveAgain ed l before after x
     curve-again room =
         record {
           code-is = same .code-same;
+          edition-is = same .edition-same;
           kind-is = same .kind-same;
           count-is = same .count-same;
           no-server = same .server-same;
@@ -103,7 +126,7 @@ module _ (l : List ℕ) {buffer filled : List ℕ} {bytes : ℕ} (o : WriteCurve
         l-is : listOf (curveOf l) ≡ l
         l-is = clear-list l curve-clear
 
-        same : SameReading x (readAs (curve (curveOf l))) after (over (listOf (curveOf l)) before)
+        same : SameReading x (readAs ed (curve (curveOf l))) after (over (listOf (curveOf l)) before)
         same = curve-file .with-room (rw l-is room) again
 
         list : after ≡ over l before
@@ -118,22 +141,28 @@ module _ (l : List ℕ) {buffer filled : List ℕ} {bytes : ℕ} (o : WriteCurve
 
 -- A server that was written with code 0, read again, comes back; no list is too short for it.
 pub server-again :
-    (s : Server) {buffer filled : List ℕ} {bytes : ℕ} → WriteServerOutcome s buffer filled 0 bytes
-    → {before after : List ℕ} {x : Reading} → ReadOutcome (take bytes filled) before after x → ServerAgain s before after x
+    (ed : ℕ) (s : Server) {buffer filled : List ℕ} {bytes : ℕ} → WriteServerOutcome ed s buffer filled 0 bytes
+    → {before after : List ℕ} {x : Reading} → ReadOutcome (take bytes filled) before after x → ServerAgain ed s before after x
 unfolding writing
-server-again s {filled = filled} {bytes = bytes} o {before} {after} {x} again =
+server-again ed s {filled = filled} {bytes = bytes} o {before} {after} {x} again =
     record {
       code-is = same .code-same;
+      edition-is = same .edition-same;
       kind-is = same .kind-same;
       count-is = same .count-same;
       server-is = same .server-same;
       list-stays = same .after-same;
     }
   where
-    file : OnlyRead (take bytes filled) (server s)
-    file = rw (filled-read o .right) (read-written (server-back s (filled-read o .operands-clear)))
+    has : Known ed (kindOf (server s))
+    has = edition-has ed (kindOf (server s)) (λ r h. filled-read o .operands-clear r (inl h))
 
-    same : SameReading x (readAs (server s)) after before
+    file : OnlyRead (take bytes filled) ed (server s)
+    file =
+        rw (filled-read o .right)
+        (read-written (server-back ed s has (λ r h. filled-read o .operands-clear r (inr h))))
+
+    same : SameReading x (readAs ed (server s)) after before
     same = only-server file again
 
 -- ---- Read, and written again.
@@ -161,11 +190,12 @@ file-again {file} {before} same =
 -- a profile's kind says what it is
 is-curve : (p : Profile) → kindOf p ≡ curveKind → p ≡ curve (bucketsOf p)
 is-curve (curve f) e = refl
-is-curve (server s) e = absurd (omega arith)
+is-curve (server (rated s)) e = absurd (omega arith)
+is-curve (server (pureDelay latency)) e = absurd (omega arith)
 
 -- as of a server
-is-server : (p : Profile) → kindOf p ≡ serverKind → p ≡ server (serverIn p)
-is-server (curve f) e = absurd (omega arith)
+is-server : (p : Profile) → kindOf p ≢ curveKind → p ≡ server (serverIn p)
+is-server (curve f) e = absurd (e refl)
 is-server (server s) e = refl
 
 -- A file of bytes that is read with code 0:
@@ -176,9 +206,20 @@ module _
     known : Read file list read x
     known = read-file o none
 
-    -- whose file it is
-    same-file : {p : Profile} → profileOf file ≡ p → written edition p ≡ file
-    same-file e = ap (written edition) (sym e) ∙ write-back file bytes (known .clear)
+    -- whose file it is, in the edition that it tells,
+    same-file : {p : Profile} → profileOf file ≡ p → written (x .edition) p ≡ file
+    same-file e =
+        ap₂ written (known .told .edition-same) (sym e) ∙ write-back file bytes (known .clear)
+
+    -- and that edition has its kind
+    told-known : {p : Profile} → profileOf file ≡ p → Known (x .edition) (kindOf p)
+    told-known {p} e =
+        rw (known .told .edition-same)
+        (subst (λ (q : Profile). Known (editionOf file) (kindOf q)) e
+        (subst (Known (editionOf file)) (held-kind file (right .known .1)) (right .known)))
+      where
+        right : RightHeader file
+        right = clear-header file (known .clear)
 
     -- Where the kind is 1, the curve that stands in the list
     module _ (kind : x .kind ≡ curveKind) where
@@ -198,51 +239,52 @@ module _
       form = normal-stable (λ out. known .clear FORM (inr (rw holds-curve (inr (refl, out)))))
 
       -- and the file is what is written of it)
-      only-file : OnlyBytes (writingCurve (readBack read (x .count))) file
+      only-file : OnlyBytes (writingCurve (x .edition) (readBack read (x .count))) file
       only-file =
           rw read-list
-          (subst (OnlyBytes (writingCurve (listOf f)))
-          (ap (λ (g : List Bucket). written edition (curve g)) (curve-list f) ∙ same-file holds-curve)
-          (curve-written (listOf f) (sound-clear f form (read-in-range file) (held-few file))))
+          (subst (OnlyBytes (writingCurve (x .edition) (listOf f)))
+          (ap (λ (g : List Bucket). written (x .edition) (curve g)) (curve-list f) ∙ same-file holds-curve)
+          (curve-written (x .edition) (told-known holds-curve) (listOf f)
+          (sound-clear f form (read-in-range file) (held-few file))))
         where
           f : List Bucket
           f = bucketsOf (profileOf file)
 
-      -- is written as the file, given room,
+      -- is written, in the edition that the reader tells, as the file, given room,
       pub curve-file-again :
           {before after : List ℕ} {code count : ℕ} → length file ≤ length before
-          → WriteCurveOutcome (readBack read (x .count)) before after code count → FileAgain file before after code count
+          → WriteCurveOutcome (x .edition) (readBack read (x .count)) before after code count → FileAgain file before after code count
       curve-file-again room again = file-again (only-file .with-room room again)
 
       -- and without is ROOM alone.
       pub curve-file-short :
           {before after : List ℕ} {code count : ℕ} → length before < length file
-          → WriteCurveOutcome (readBack read (x .count)) before after code count → Same code count 10 0 after before
+          → WriteCurveOutcome (x .edition) (readBack read (x .count)) before after code count → Same code count 10 0 after before
       curve-file-short short again = only-file .without-room short again
 
-    -- Where it is 2, the server that the reader tells
-    module _ (kind : x .kind ≡ serverKind) where
+    -- Where it is another, the server that the reader tells
+    module _ (kind : x .kind ≢ curveKind) where
       -- (it is the server that the file holds,
       holds-server : profileOf file ≡ server (x .server)
       holds-server =
-          is-server (profileOf file) (sym (known .told .kind-same) ∙ kind) ∙ ap server (sym (known .told .server-same))
+          is-server (profileOf file) (λ e. kind (known .told .kind-same ∙ e)) ∙ ap server (sym (known .told .server-same))
 
       -- and the file is what is written of it)
-      only-server-file : OnlyBytes (writingServer (x .server)) file
+      only-server-file : OnlyBytes (writingServer (x .edition) (x .server)) file
       only-server-file =
-          subst (OnlyBytes (writingServer (x .server))) (same-file holds-server)
-          (server-written (x .server) (λ r h. known .clear r (inr (rw holds-server h))))
+          subst (OnlyBytes (writingServer (x .edition) (x .server))) (same-file holds-server)
+          (server-written (x .edition) (x .server) (told-known holds-server) (λ r h. known .clear r (inr (rw holds-server h))))
 
       -- is, given room,
       pub server-file-again :
           {before after : List ℕ} {code count : ℕ} → length file ≤ length before
-          → WriteServerOutcome (x .server) before after code count → FileAgain file before after code count
+          → WriteServerOutcome (x .edition) (x .server) before after code count → FileAgain file before after code count
       server-file-again room again = file-again (only-server-file .with-room room again)
 
       -- and without is ROOM alone.
       pub server-file-short :
           {before after : List ℕ} {code count : ℕ} → length before < length file
-          → WriteServerOutcome (x .server) before after code count → Same code count 10 0 after before
+          → WriteServerOutcome (x .edition) (x .server) before after code count → Same code count 10 0 after before
       server-file-short short again = only-server-file .without-room short again
 
 -- ---- Room for every profile.
@@ -268,26 +310,34 @@ room-for-file {file} {before} {after} {x} room o e = by (file-decided file)
 
 -- Nor is ROOM the code of writing where the buffer has room for all that no line refuses:
 room-for :
-    (operands : Lines) (p : Profile) {before after : List ℕ} {code count : ℕ}
-    → Decided operands → UpTo 8 operands → (Clear operands → length (written edition p) ≤ length before)
-    → BytesOutcome (writing operands p) before after code count → code ≢ 10
-unfolding writing
-room-for operands p (code, accepted clear none) upto room o e =
-    omega (arith, only-written operands p clear .with-room (room clear) o .code-same)
-room-for operands p (code, rejected r w is) upto room o e =
-    not-room upto w (sym (bytes-wins o (omega (arith, upto r (w .holds))) w) ∙ e)
+    (ed : ℕ) (operands : Lines) (p : Profile) {before after : List ℕ} {code count : ℕ}
+    → Decided operands → UpTo 8 operands → (Clear operands → length (written ed p) ≤ length before)
+    → BytesOutcome (writing ed operands p) before after code count → code ≢ 10
+unfolding writing number
+room-for ed operands p {before} {after} {code} {count} decided upto room o e = by (decide-or (edition-decided ed (kindOf p)) decided)
+  where
+    all-up-to : UpTo 8 (editionLines ed (kindOf p) or operands)
+    all-up-to = up-to-or (up-to-when HEADER (lit≤ tt)) upto
+
+    by : Decided (editionLines ed (kindOf p) or operands) → ⊥
+    by (told, accepted clear none) =
+        let has = edition-has ed (kindOf p) (λ r h. clear r (inl h)) in
+        let all : Clear operands = λ r h. clear r (inr h) in
+        omega (arith, only-written ed operands p has all .with-room (room all) o .code-same)
+    by (told, rejected r w is) = not-room all-up-to w (sym (bytes-wins o (omega (arith, all-up-to r (w .holds))) w) ∙ e)
 
 -- a buffer of 482 bytes for every curve,
 pub room-for-curve :
-    (l : List ℕ) {before after : List ℕ} {code count : ℕ} → 482 ≤ length before → WriteCurveOutcome l before after code count
-    → code ≢ 10
-room-for-curve l room =
-    room-for (curveLines l) (curve (curveOf l)) (curve-decided l) (curve-up-to l)
-    (λ clear. omega (arith, curve-bytes edition (curveOf l), fits-few (clear-fits l clear)))
+    (ed : ℕ) (l : List ℕ) {before after : List ℕ} {code count : ℕ} → 482 ≤ length before
+    → WriteCurveOutcome ed l before after code count → code ≢ 10
+room-for-curve ed l room =
+    room-for ed (curveLines l) (curve (curveOf l)) (curve-decided l) (curve-up-to l)
+    (λ clear. omega (arith, curve-bytes ed (curveOf l), fits-few (clear-fits l clear)))
 
 -- and one of 6 for every server
 pub room-for-server :
-    (s : Server) {before after : List ℕ} {code count : ℕ} → 6 ≤ length before → WriteServerOutcome s before after code count
-    → code ≢ 10
-room-for-server s room =
-    room-for (serverLines s) (server s) (server-decided s) (server-up-to s) (λ clear. omega (arith, server-bytes edition s))
+    (ed : ℕ) (s : Server) {before after : List ℕ} {code count : ℕ} → 6 ≤ length before
+    → WriteServerOutcome ed s before after code count → code ≢ 10
+room-for-server ed s room =
+    room-for ed (serverLines s) (server s) (server-decided s) (server-up-to s)
+    (λ clear. omega (arith, server-bytes ed s, byte-size (kindOf (server s)) .1))

@@ -1,20 +1,21 @@
 -- Profiles and their files: how many bits and bytes a profile takes, what its file's bits are, and which profile a file holds.
 -- Assumes nothing.
 use mathlib.Core.Path.{_≡_, refl, sym, _∙_, ap, ap₂}
-use mathlib.Core.Logic.{_≢_}
+use mathlib.Core.Logic.{_⊎_, inl, inr, _≢_}
+use mathlib.Core.Bool.{cond}
 use mathlib.Core.List.{List, [], _∷_, _++_}
 use Prim.Native.Nat.{ℕ, zero, suc, _+_, _-_, _*_, _/_, _≤_, _<_}
 use native.Mathlib.Nat.{add-zero}
 use native.Mathlib.Decide.{ℕ-discrete}
 use native.Mathlib.Omega.{arith}
-use lib.Dec.{lit≤}
+use lib.Dec.{lit≤, eqb}
 use lib.ListN.{length, length-append, length-drop, length-replicate}
 use lib.Seq.{take-all}
 use borrow.Author.Tests.{eq-eqb, ne-eqb}
 use Rattle.meaning.specs.Curve.{Bucket}
-use Rattle.meaning.specs.Server.{Server}
+use Rattle.meaning.specs.Server.{Server, rated, pureDelay, port, rateLatencyKind, pureDelayKind}
 use Rattle.meaning.specs.Refusal.{AllInRange}
-use Rattle.meaning.specs.Profile.{spelt, packed, fileBits, curveKind, Profile, curve, server, bucketFields, fields, profileBits, byteCount, written, field, bucketsIn, editionOf, kindIn, profileOf, bytesTaken, padding, bucketsOf}
+use Rattle.meaning.specs.Profile.{spelt, packed, fileBits, curveKind, Profile, curve, server, kindOf, bucketFields, fields, profileBits, byteCount, written, field, bucketsIn, editionOf, kindIn, serverHeld, profileOf, bytesTaken, padding, bucketsOf}
 use Rattle.meaning.proofs.Lists.{cons-each}
 use Rattle.meaning.proofs.curve.Lowest.{same-bucket}
 use Rattle.meaning.proofs.server.Joining.{same-server}
@@ -71,32 +72,60 @@ unfolding bucketFields
 bucket-bits [] = no-bits
 bucket-bits (k ∷ f) = simp length-packed (omega (arith, bucket-bits f))
 
+-- The bits of a server, by its kind: a pure delay has 28, any other 48.
+abbrev pub bitSize : ℕ → ℕ
+bitSize kind = cond (eqb kind pureDelayKind) 28 48
+
+-- So its bytes are 4, or 6.
+abbrev pub byteSize : ℕ → ℕ
+byteSize kind = cond (eqb kind pureDelayKind) 4 6
+
+-- they are from 4 to 6,
+pub byte-size : (kind : ℕ) → (4 ≤ byteSize kind) × (byteSize kind ≤ 6)
+byte-size kind =
+    elim (ℕ-discrete kind pureDelayKind) [
+      | yes e ↦ rw (eq-eqb kind pureDelayKind e) (lit≤ tt, lit≤ tt)
+      | no e ↦ rw (ne-eqb kind pureDelayKind e) (lit≤ tt, lit≤ tt)
+    ]
+
+-- and those of the bits, rounded up
+pub byte-bits : (kind : ℕ) → (bitSize kind + 7) / 8 ≡ byteSize kind
+byte-bits kind =
+    elim (ℕ-discrete kind pureDelayKind) [
+      | yes e ↦ rw (eq-eqb kind pureDelayKind e)
+      | no e ↦ rw (ne-eqb kind pureDelayKind e)
+    ]
+
 module _ (ed : ℕ) where
   -- a curve has 14 + 60·n bits,
   pub curve-bits : (f : List Bucket) → length (profileBits ed (curve f)) ≡ 14 + 60 * length f
   unfolding profileBits fields
   curve-bits f = simp length-packed (omega (arith, bucket-bits f))
 
-  -- and a server 48
-  pub server-bits : (s : Server) → length (profileBits ed (server s)) ≡ 48
+  -- a rate-latency server 48, and a pure delay 28
+  pub server-bits : (s : Server) → length (profileBits ed (server s)) ≡ bitSize (kindOf (server s))
   unfolding profileBits fields
-  server-bits s = simp length-packed (omega (arith, no-bits))
+  server-bits (rated s) = simp length-packed (omega (arith, no-bits))
+  server-bits (pureDelay latency) = simp length-packed (omega (arith, no-bits))
 
   -- a curve's file has (60·n + 21)/8 bytes,
   pub curve-bytes : (f : List Bucket) → length (written ed (curve f)) ≡ (60 * length f + 21) / 8
   unfolding byteCount
   curve-bytes f = omega (arith, written-length ed (curve f), curve-bits f)
 
-  -- and a server's 6
-  pub server-bytes : (s : Server) → length (written ed (server s)) ≡ 6
+  -- a rate-latency server's 6, and a pure delay's 4
+  pub server-bytes : (s : Server) → length (written ed (server s)) ≡ byteSize (kindOf (server s))
   unfolding byteCount
-  server-bytes s = omega (arith, written-length ed (server s), server-bits s)
+  server-bytes (rated s) = omega (arith, written-length ed (server (rated s)), server-bits (rated s))
+  server-bytes (pureDelay latency) =
+      omega (arith, written-length ed (server (pureDelay latency)), server-bits (pureDelay latency))
 
   -- every profile's has more than one
   pub more-than-one-byte : (p : Profile) → 1 < byteCount ed p
   unfolding byteCount
   more-than-one-byte (curve f) = omega (arith, curve-bits f)
-  more-than-one-byte (server s) = omega (arith, server-bits s)
+  more-than-one-byte (server (rated s)) = omega (arith, server-bits (rated s))
+  more-than-one-byte (server (pureDelay latency)) = omega (arith, server-bits (pureDelay latency))
 
 -- ---- The buckets in a file.
 
@@ -166,11 +195,28 @@ module _ (file : List ℕ) where
   unfolding profileOf
   held-curve e = rw (eq-eqb (kindIn file) curveKind e)
 
-  -- and one of another kind a server
-  pub held-server :
-      kindIn file ≢ curveKind → profileOf file ≡ server (record { rate = field file 8 20; latency = field file 28 20 })
+  -- and one of another kind a server:
+  pub held-server : kindIn file ≢ curveKind → profileOf file ≡ server (serverHeld file)
   unfolding profileOf
   held-server e = rw (ne-eqb (kindIn file) curveKind e)
+
+  -- of kind 3 a pure delay,
+  pub at-delay : kindIn file ≡ pureDelayKind → serverHeld file ≡ pureDelay (field file 8 20)
+  unfolding serverHeld
+  at-delay e = rw (eq-eqb (kindIn file) pureDelayKind e)
+
+  -- and of another a rate-latency server
+  pub at-rate : kindIn file ≢ pureDelayKind → serverHeld file ≡ port (field file 8 20) (field file 28 20)
+  unfolding serverHeld
+  at-rate e = rw (ne-eqb (kindIn file) pureDelayKind e)
+
+  -- so of a known kind it holds a profile of that kind
+  pub held-kind :
+      {ed : ℕ} → (kindIn file ≡ curveKind) ⊎ (kindIn file ≡ rateLatencyKind) ⊎ ((kindIn file ≡ pureDelayKind) × (ed ≡ 2))
+      → kindIn file ≡ kindOf (profileOf file)
+  held-kind (inl e) = rw (held-curve e) e
+  held-kind (inr (inl e)) = rw (held-server (omega arith), at-rate (omega arith)) e
+  held-kind (inr (inr e)) = rw (held-server (omega (arith, e .0)), at-delay (e .0)) (e .0)
 
   -- a curve takes the bytes that its count requires,
   pub curve-taken : kindIn file ≡ curveKind → bytesTaken file ≡ (60 * (field file 8 6 + 1) + 21) / 8
@@ -179,12 +225,22 @@ module _ (file : List ℕ) where
       let n = field file 8 6 + 1 in
       rw (held-curve e) (omega (arith, curve-bits (editionOf file) (bucketsIn file 14 n), length-buckets-in file 14 n))
 
-  -- and a server six
-  pub server-taken : kindIn file ≢ curveKind → bytesTaken file ≡ 6
+  -- and a server those of its kind: of bits,
+  pub server-size : kindIn file ≢ curveKind → length (profileBits (editionOf file) (profileOf file)) ≡ bitSize (kindIn file)
+  server-size other =
+      elim (ℕ-discrete (kindIn file) pureDelayKind) [
+        | yes e ↦
+            rw (held-server other, at-delay e, eq-eqb (kindIn file) pureDelayKind e)
+            (server-bits (editionOf file) (pureDelay (field file 8 20)))
+        | no e ↦
+            rw (held-server other, at-rate e, ne-eqb (kindIn file) pureDelayKind e)
+            (server-bits (editionOf file) (port (field file 8 20) (field file 28 20)))
+      ]
+
+  -- and of bytes
+  pub server-taken : kindIn file ≢ curveKind → bytesTaken file ≡ byteSize (kindIn file)
   unfolding bytesTaken byteCount
-  server-taken e =
-      let s : Server = record { rate = field file 8 20; latency = field file 28 20 } in
-      rw (held-server e) (omega (arith, server-bits (editionOf file) s))
+  server-taken other = ap (λ n. (n + 7) / 8) (server-size other) ∙ byte-bits (kindIn file)
 
   -- a file holds at most 64 buckets,
   pub held-few : length (bucketsOf (profileOf file)) ≤ 64
@@ -214,8 +270,11 @@ module _ (file : List ℕ) where
   -- or a server
   pub standing-server : (ed : ℕ) (s : Server) → Stands file 0 (fields ed (server s)) → profileOf file ≡ server s
   unfolding fields kindIn
-  standing-server ed s h =
-      held-server (omega (arith, h .1 .0)) ∙ ap server (same-server (h .1 .1 .0) (h .1 .1 .1 .0))
+  standing-server ed (rated s) h =
+      held-server (omega (arith, h .1 .0))
+      ∙ ap server (at-rate (omega (arith, h .1 .0)) ∙ ap rated (same-server (h .1 .1 .0) (h .1 .1 .1 .0)))
+  standing-server ed (pureDelay latency) h =
+      held-server (omega (arith, h .1 .0)) ∙ ap server (at-delay (h .1 .0) ∙ ap pureDelay (h .1 .1 .0))
 
   -- the padding is bits,
   pub binary-padding : Binary (padding file)
@@ -269,11 +328,22 @@ module _ (file rest : List ℕ) (whole : bytesTaken file ≤ length file) where
 
   -- and a server,
   append-server : kindIn file ≢ curveKind → profileOf (file ++ rest) ≡ profileOf file
-  append-server e =
-      let inside : 6 ≤ length file = omega (arith, server-taken file e) in
-      held-server (file ++ rest) (λ k. e (sym kind-append ∙ k))
-      ∙ ap server (same-server (field-append file rest 8 20 (omega arith)) (field-append file rest 28 20 (omega arith)))
-      ∙ sym (held-server file e)
+  append-server other =
+      held-server (file ++ rest) (λ k. other (sym kind-append ∙ k)) ∙ ap server same ∙ sym (held-server file other)
+    where
+      latency : field (file ++ rest) 8 20 ≡ field file 8 20
+      latency = field-append file rest 8 20 (omega (arith, server-taken file other, byte-size (kindIn file) .0))
+
+      same : serverHeld (file ++ rest) ≡ serverHeld file
+      same =
+          elim (ℕ-discrete (kindIn file) pureDelayKind) [
+            | yes e ↦ at-delay (file ++ rest) (kind-append ∙ e) ∙ ap pureDelay latency ∙ sym (at-delay file e)
+            | no e ↦
+                let six : byteSize (kindIn file) ≡ 6 = rw (ne-eqb (kindIn file) pureDelayKind e) in
+                at-rate (file ++ rest) (λ k. e (sym kind-append ∙ k))
+                ∙ ap rated (same-server latency (field-append file rest 28 20 (omega (arith, server-taken file other, six))))
+                ∙ sym (at-rate file e)
+          ]
 
   -- so the profile is,
   pub held-append : profileOf (file ++ rest) ≡ profileOf file

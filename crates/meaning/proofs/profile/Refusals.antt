@@ -1,7 +1,7 @@
 -- Which refusal is the code: of a file by its header, its length, its padding and the profile that it holds, one after the other;
 -- and of a curve or a server that is written.
 -- Assumes nothing.
-use mathlib.Core.Path.{_≡_, refl, sym, _∙_}
+use mathlib.Core.Path.{_≡_, refl, sym, _∙_, ap}
 use mathlib.Core.Logic.{_⊎_, inl, inr, _≢_}
 use mathlib.Core.List.{List, _++_, List·Memᴰ}
 use Prim.Native.Nat.{ℕ, _+_, _%_, _≤_, _<_}
@@ -10,10 +10,10 @@ use native.Mathlib.Omega.{arith}
 use lib.Dec.{lit≤}
 use lib.ListN.{length, length-append}
 use Rattle.meaning.specs.Curve.{width, curveOf, NormalForm}
-use Rattle.meaning.specs.Refusal.{HEADER, LENGTH, PAD, LIST, COUNT, RANGE, FORM, number, _when_, _or_, Clear, Verdict, accepted, rejected, AllInRange, Uneven, listLines, curveLines}
+use Rattle.meaning.specs.Refusal.{HEADER, LENGTH, PAD, LIST, COUNT, RANGE, FORM, number, Lines, _when_, _or_, Clear, Verdict, accepted, rejected, AllInRange, Uneven, listLines, curveLines}
 use Rattle.meaning.specs.Server.{Server}
-use Rattle.meaning.specs.ServerQuestions.{ServerInRange}
-use Rattle.meaning.specs.Profile.{edition, curveKind, serverKind, Profile, curve, server, editionOf, kindIn, profileOf, bytesTaken, padding, profileLines, fileLines, writing}
+use Rattle.meaning.specs.ServerQuestions.{ServerInRange, serverLines}
+use Rattle.meaning.specs.Profile.{curveKind, Profile, curve, server, kindOf, Known, editionOf, kindIn, profileOf, bytesTaken, padding, profileLines, fileLines, writing}
 use Rattle.meaning.proofs.Order.{le-or-lt}
 use Rattle.meaning.proofs.Lists.{curve-use}
 use Rattle.meaning.proofs.outcome.Outcomes.{number-positive, UpTo, From, from-when, from-or, up-to-when, up-to-or, line-hit, line-miss, refused-first, refused-then}
@@ -21,18 +21,16 @@ use Rattle.meaning.proofs.outcome.Slips.{list-wins}
 use Rattle.meaning.proofs.outcome.Answers.{curve-up-to, Taken, list-clear}
 use Rattle.meaning.proofs.outcome.Demands.{server-up-to}
 use Rattle.meaning.proofs.outcome.Bytes.{OnlyRefusedBytes, only-refused-bytes}
-use Rattle.meaning.proofs.profile.Files.{curve-taken, server-taken, edition-append, kind-append, taken-append}
+use Rattle.meaning.proofs.profile.Files.{byteSize, curve-taken, server-taken, edition-append, kind-append, taken-append}
 use Rattle.meaning.proofs.profile.Fields.{field-append}
 use Rattle.meaning.proofs.profile.RoundTrip.{RightHeader, no-header, no-length, clear-whole, clear-header}
 use Rattle.meaning.proofs.profile.Outcomes.{writingCurve, writingServer}
 
 -- ---- A file.
 
--- an empty file, another edition, another kind: 1
+-- an empty file, or a kind that the edition does not have: 1
 pub header-wrong :
-    (file : List ℕ)
-    → (length file ≡ 0) ⊎ (editionOf file ≢ edition) ⊎ ((kindIn file ≢ curveKind) × (kindIn file ≢ serverKind))
-    → Verdict (fileLines file) 1
+    (file : List ℕ) → (length file ≡ 0) ⊎ (Known (editionOf file) (kindIn file) → ⊥) → Verdict (fileLines file) 1
 unfolding number
 header-wrong file h =
     rejected HEADER (record { holds = inl (inl (inl (refl, h))); smallest = λ r _. number-positive r }) refl
@@ -61,7 +59,7 @@ module _ (file : List ℕ) (header : RightHeader file) where
   module _ (whole : length file ≡ bytesTaken file) where
     -- where header and length are right neither refuses
     framed : Verdict
-        (HEADER when ((length file ≡ 0) ⊎ (editionOf file ≢ edition) ⊎ ((kindIn file ≢ curveKind) × (kindIn file ≢ serverKind)))
+        (HEADER when ((length file ≡ 0) ⊎ (Known (editionOf file) (kindIn file) → ⊥))
         or LENGTH when ((length file ≢ bytesTaken file) ⊎ ((kindIn file ≡ curveKind) × (length file ≡ 1)))) 0
     framed = refused-then (line-miss (no-header file header)) (line-miss (no-length file whole))
 
@@ -86,8 +84,7 @@ byte-behind file rest clear more =
     length-wrong (file ++ rest)
     (record {
       filled = omega (arith, length-append file rest);
-      first = edition-append file rest enough ∙ header .first;
-      kind = rw (kind-append file rest enough) (header .kind);
+      known = rw (edition-append file rest enough, kind-append file rest enough) (header .known);
     })
     (λ e. omega (arith, length-append file rest, taken-append file rest enough, whole))
   where
@@ -108,8 +105,7 @@ cut-short file rest clear some more =
     length-wrong file
     (record {
       filled = some;
-      first = sym (field-append file rest 0 4 (omega arith)) ∙ header .first;
-      kind = rw (sym kind) (header .kind);
+      known = rw (sym kind, sym (field-append file rest 0 4 (omega arith))) (header .known);
     })
     (λ e.
     elim (ℕ-discrete (kindIn file) curveKind) [
@@ -125,7 +121,14 @@ cut-short file rest clear some more =
                 )
             | inr h ↦ omega (arith, curve-taken file is)
           ]
-      | no other ↦ omega (arith, size, server-taken file other, server-taken (file ++ rest) (λ is. other (sym kind ∙ is)))
+      | no other ↦
+          omega (
+            arith,
+            size,
+            server-taken file other,
+            server-taken (file ++ rest) (λ is. other (sym kind ∙ is)),
+            ap byteSize kind,
+          )
     ])
   where
     header : RightHeader (file ++ rest)
@@ -139,15 +142,42 @@ cut-short file rest clear some more =
 
 -- ---- A curve or a server that is written.
 
--- a curve of which a line holds is refused, whatever buffer is lent,
-pub refused-curve : (l : List ℕ) {code : ℕ} → 1 ≤ code → Verdict (curveLines l) code → OnlyRefusedBytes (writingCurve l) code
-unfolding writing
-refused-curve l = only-refused-bytes (λ r h. omega (arith, curve-up-to l r h))
+module _ (ed : ℕ) (operands : Lines) (p : Profile) where
+  -- an edition that has no such kind: 1, whatever else is wrong;
+  pub edition-code : (Known ed (kindOf p) → ⊥) → Verdict (writing ed operands p .operands) 1
+  unfolding writing number
+  edition-code out = rejected HEADER (record { holds = inl (refl, out); smallest = λ r _. number-positive r }) refl
 
--- and so is a server
-pub refused-server : (s : Server) → (ServerInRange s → ⊥) → OnlyRefusedBytes (writingServer s) 6
-unfolding writing number
-refused-server s out = only-refused-bytes (λ r h. omega (arith, server-up-to s r h)) (lit≤ tt) (line-hit RANGE out)
+  -- in one that has it the operand's code decides
+  pub operand-code : {code : ℕ} → Known ed (kindOf p) → Verdict operands code → Verdict (writing ed operands p .operands) code
+  unfolding writing
+  operand-code has v = refused-then (line-miss (λ out. out has)) v
+
+  module _ (upto : UpTo 8 operands) where
+    -- no line but ROOM is above LARGE,
+    pub write-up-to : UpTo 9 (writing ed operands p .operands)
+    unfolding writing number
+    write-up-to = up-to-or (up-to-when HEADER (lit≤ tt)) (λ r h. omega (arith, upto r h))
+
+    -- so either is the only outcome, whatever buffer is lent
+    pub edition-wrong : (Known ed (kindOf p) → ⊥) → OnlyRefusedBytes (writing ed operands p) 1
+    edition-wrong out = only-refused-bytes write-up-to (lit≤ tt) (edition-code out)
+
+    operand-wrong :
+        {code : ℕ} → Known ed (kindOf p) → 1 ≤ code → Verdict operands code → OnlyRefusedBytes (writing ed operands p) code
+    operand-wrong has some v = only-refused-bytes write-up-to some (operand-code has v)
+
+-- so a curve that is refused,
+pub refused-curve :
+    (ed : ℕ) → Known ed curveKind → (l : List ℕ) {code : ℕ} → 1 ≤ code → Verdict (curveLines l) code
+    → OnlyRefusedBytes (writingCurve ed l) code
+refused-curve ed has l = operand-wrong ed (curveLines l) (curve (curveOf l)) (curve-up-to l) has
+
+-- and a server
+pub refused-server :
+    (ed : ℕ) (s : Server) → Known ed (kindOf (server s)) → (ServerInRange s → ⊥) → OnlyRefusedBytes (writingServer ed s) 6
+unfolding number
+refused-server ed s has out = operand-wrong ed (serverLines s) (server s) (server-up-to s) has (lit≤ tt) (line-hit RANGE out)
 
 module _ (l : List ℕ) where
   -- an empty list, or one that does not come out even: 4

@@ -24,14 +24,14 @@ use Rattle.meaning.proofs.profile.Known.{p11-server-file, p11-server-ou
 -- P11's server with the least significant bit first
 pub least-bit-first :
     {before : List ℕ} {count : ℕ}
-    → WriteServerOutcome (port 6 1) before (over (0x21 ∷ 0x06 ∷ 0x00 ∷ 0x10 ∷ 0x00 ∷ 0x00 ∷ []) before) 0 count → ⊥
+    → WriteServerOutcome 1 (port 6 1) before (over (0x21 ∷ 0x06 ∷ 0x00 ∷ 0x10 ∷ 0x00 ∷ 0x00 ∷ []) before) 0 count → ⊥
 unfolding over
 least-bit-first o = let z : _≡_ {A = ℕ} 0x21 0x12 = cc (only-filled p11-server-outcome o .after-same) in omega arith
 
 -- P11's curve with the count not reduced by one: written,
 pub count-not-reduced :
     {before : List ℕ} {count : ℕ}
-    → WriteCurveOutcome p11-curve before
+    → WriteCurveOutcome 1 p11-curve before
     (over (0x11 ∷ 0x04 ∷ 0x00 ∷ 0x02 ∷ 0x80 ∷ 0x00 ∷ 0x00 ∷ 0x00 ∷ 0x00 ∷ 0x80 ∷ []) before) 0 count
     → ⊥
 unfolding over
@@ -70,7 +70,7 @@ module _ {file before after : List ℕ} {x : Reading} where
   changed-and-refused other o some = other (refusal-keeps-read o some .after-same)
 
   -- a server's file that clears the list, or writes anything into it
-  pub server-changes-list : {s : Server} → OnlyRead file (server s) → after ≢ before → ReadOutcome file before after x → ⊥
+  pub server-changes-list : {ed : ℕ} {s : Server} → OnlyRead file ed (server s) → after ≢ before → ReadOutcome file before after x → ⊥
   server-changes-list known other o = other (only-server known o .after-same)
 
 -- buckets that are written before it is known that they are not in normal form
@@ -82,7 +82,7 @@ written-before-form {before} other o =
 
 -- ---- Stand-ins.
 
-module _ {file : List ℕ} {p : Profile} (known : OnlyRead file p) {before : List ℕ} {x : Reading} where
+module _ {file : List ℕ} {ed : ℕ} {p : Profile} (known : OnlyRead file ed p) {before : List ℕ} {x : Reading} where
   -- a reader that refuses everything
   pub read-refuser :
       {after : List ℕ} → length (listOf (bucketsOf p)) ≤ length before → ReadOutcome file before after x → x .code ≢ 0 → ⊥
@@ -96,12 +96,12 @@ module _ {file : List ℕ} {p : Profile} (known : OnlyRead file p) {before : Lis
       (ap (take (length (listOf (bucketsOf p)))) (only-reading known o none .after-same)
       ∙ over-start (listOf (bucketsOf p)) before)
 
-  -- one that makes up the kind, the count or the server: they are the profile's
+  -- one that makes up the edition, the kind, the count or the server: they are the file's
   pub invented-reading :
       {after : List ℕ} → ReadOutcome file before after x → x .code ≡ 0
-      → (x .kind ≡ kindOf p) × (x .count ≡ length (bucketsOf p)) × (x .server ≡ serverIn p)
+      → (x .edition ≡ ed) × (x .kind ≡ kindOf p) × (x .count ≡ length (bucketsOf p)) × (x .server ≡ serverIn p)
   invented-reading o none =
-      let same = only-reading known o none in (same .kind-same, same .count-same, same .server-same)
+      let same = only-reading known o none in (same .edition-same, same .kind-same, same .count-same, same .server-same)
 
 -- a fixed reply: none serves both files of P11, in a list with room for the curve
 pub fixed-reading :

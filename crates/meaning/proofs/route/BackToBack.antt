@@ -14,13 +14,13 @@ use Rattle.meaning.specs.Curve.{Bucket, NormalForm}
 use Rattle.meaning.specs.Server.{Server}
 use Rattle.meaning.specs.Refusal.{HEADER, RANGE, FORM, Clear}
 use Rattle.meaning.specs.ServerQuestions.{ServerInRange}
-use Rattle.meaning.specs.Profile.{bitsOf, spelt, packed, fileBits, edition, curveKind, Profile, curve, server, written, field, editionOf, kindIn, profileOf, bytesTaken, profileLines, fileLines, bucketsOf, serverIn}
+use Rattle.meaning.specs.Profile.{bitsOf, spelt, packed, fileBits, curveKind, Profile, curve, server, written, field, editionOf, kindIn, profileOf, bytesTaken, profileLines, fileLines, bucketsOf, serverIn}
 use Rattle.meaning.specs.Route.{firstFile, afterFirst, IsCurve, IsServer, dueLines}
 use Rattle.meaning.proofs.Order.{le-or-lt, not-apart}
 use Rattle.meaning.proofs.outcome.Stable.{normal-stable, server-stable}
 use Rattle.meaning.proofs.profile.Bits.{spelt-mod}
 use Rattle.meaning.proofs.profile.Fields.{field-append}
-use Rattle.meaning.proofs.profile.Files.{more-than-one-byte, held-curve, held-server, curve-taken, server-taken, edition-append, kind-append, held-append, taken-append}
+use Rattle.meaning.proofs.profile.Files.{byteSize, more-than-one-byte, held-curve, held-server, curve-taken, server-taken, edition-append, kind-append, held-append, taken-append}
 use Rattle.meaning.proofs.profile.RoundTrip.{clear-whole, ReadsBack}
 
 -- ---- The header by its bytes.
@@ -75,7 +75,7 @@ header-front a b two =
     let kind : kindIn (a ++ b) ≡ kindIn a = field-append a b 4 4 (omega arith) in
     elim (ℕ-discrete (kindIn a) curveKind) [
       | yes e ↦ omega (arith, curve-taken (a ++ b) (kind ∙ e), field-append a b 8 6 (omega arith), curve-taken a e)
-      | no e ↦ server-taken (a ++ b) (λ k. e (sym kind ∙ k)) ∙ sym (server-taken a e)
+      | no e ↦ server-taken (a ++ b) (λ k. e (sym kind ∙ k)) ∙ ap byteSize kind ∙ sym (server-taken a e)
     ]
 
 -- ---- The profile at the start.
@@ -181,7 +181,7 @@ module _ (input : List ℕ) (clear : Clear (dueLines IsServer input)) where
   pub due-in-range : ServerInRange (serverIn (profileOf input))
   due-in-range =
       let lines = subst (λ (p : Profile). Clear (profileLines p)) due-server (file-profile input (λ r h. clear r (inr h))) in
-      server-stable (λ out. lines RANGE (refl, out))
+      server-stable (serverIn (profileOf input)) (λ out. lines RANGE (refl, out))
 
 -- ---- A file in front of other bytes, and a file cut short.
 
@@ -214,16 +214,16 @@ module _ (file rest : List ℕ) where
   unfolding kindIn
   kind-cut some = field-append file rest 4 4 (omega arith)
 
--- An input begins with a profile: it holds the profile, its first bytes are the profile's file, and then comes the rest.
-pub record Begins (input : List ℕ) (p : Profile) (rest : List ℕ) : Type 0 where
+-- An input begins with a profile in an edition: it holds the profile, its first bytes are the profile's file, and then comes the rest.
+pub record Begins (input : List ℕ) (ed : ℕ) (p : Profile) (rest : List ℕ) : Type 0 where
   pub holds : profileOf input ≡ p
-  pub file : firstFile input ≡ written edition p
+  pub file : firstFile input ≡ written ed p
   pub after : afterFirst input ≡ rest
 
 -- so it does with the file of a profile that reads back
-pub begins : {p : Profile} → ReadsBack p → (rest : List ℕ) → Begins (written edition p ++ rest) p rest
-begins {p} back rest =
-    let file = written edition p in
+pub begins : {ed : ℕ} {p : Profile} → ReadsBack ed p → (rest : List ℕ) → Begins (written ed p ++ rest) ed p rest
+begins {ed} {p} back rest =
+    let file = written ed p in
     let whole = clear-whole file (back .clear) in
     record {
       holds = held-append file rest (omega arith) ∙ back .same;

@@ -23,7 +23,7 @@ use Rattle.meaning.proofs.outcome.EveryInput.{Decided, decide-too-large
 use Rattle.meaning.proofs.profile.Files.{held-few, held-server}
 use Rattle.meaning.proofs.profile.Outcomes.{OnlyRefused, only-read, only-refused, read-file}
 use Rattle.meaning.proofs.profile.Decided.{file-decided, read-has-outcome}
-use Rattle.meaning.proofs.server.HopByHop.{behind-unique}
+use Rattle.meaning.proofs.server.BothKinds.{behind-unique}
 use Rattle.meaning.proofs.route.BackToBack.{same-start}
 use Rattle.meaning.proofs.route.Line.{sofar-in-range}
 use Rattle.meaning.proofs.route.Winning.{server-file-decides, curve-file-decides, reading-decides, port-decides, join-decides, behind-decides}
@@ -68,7 +68,7 @@ module _ (input : List ℕ) where
     module _ (answered : x .code ≡ 0) where
       -- the server that is read is the one that stands there,
       pub server-told : x .server ≡ serverIn (profileOf input)
-      server-told = o .told .accepted answered .1 ∙ ap serverIn (same-start input .profile-same)
+      server-told = o .told .accepted answered .2 ∙ ap serverIn (same-start input .profile-same)
 
       -- and the list that is read is the curve's
       pub curve-told : readBack after (x .count) ≡ listOf (bucketsOf (profileOf input))

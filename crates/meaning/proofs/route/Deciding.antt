@@ -19,7 +19,7 @@ use Rattle.meaning.specs.Route.{firstFile, afterFirst, hopLines, Figures
 use Rattle.meaning.proofs.Order.{le-or-lt}
 use Rattle.meaning.proofs.outcome.Outcomes.{number-positive, wins-once}
 use Rattle.meaning.proofs.profile.Fields.{field-fits}
-use Rattle.meaning.proofs.profile.Files.{held-curve, curve-taken, server-taken, held-append, taken-append}
+use Rattle.meaning.proofs.profile.Files.{byte-size, held-curve, curve-taken, server-taken, held-append, taken-append}
 use Rattle.meaning.proofs.route.BackToBack.{kind-of-server, due-server, kind-cut}
 use Rattle.meaning.proofs.route.Routes.{number-names-one, one-route}
 use Rattle.meaning.proofs.route.EveryRoute.{route-has-text}
@@ -31,7 +31,7 @@ pub taken-most : (input : List ℕ) → bytesTaken input ≤ 482
 taken-most input =
     elim (ℕ-discrete (kindIn input) curveKind) [
       | yes e ↦ omega (arith, curve-taken input e, field-fits input 8 6)
-      | no e ↦ omega (arith, server-taken input e)
+      | no e ↦ omega (arith, server-taken input e, byte-size (kindIn input) .1)
     ]
 
 -- so many bytes come after the first
@@ -69,9 +69,9 @@ only-header w holds = number-names-one (wins-once w (header-wins holds))
 curve-header : (f : List Bucket) (before : Option Server) (input : List ℕ) → kindIn input ≡ curveKind → hopLines f before input HEADER
 curve-header f before input kind = inl (inl (inl (inl (refl, λ due. rw (held-curve input kind) at due))))
 
--- and anything else has six bytes
+-- and anything else has six bytes at most
 server-whole : (input : List ℕ) → 6 ≤ length input → kindIn input ≢ curveKind → bytesTaken input ≤ length input
-server-whole input long kind = omega (arith, server-taken input kind)
+server-whole input long kind = omega (arith, server-taken input kind, byte-size (kindIn input) .1)
 
 -- what wins there wins whatever comes behind,
 wins-more :
@@ -120,7 +120,13 @@ onward-more {first} {hops} {before} {f} {input} {report} rest long (hop here g s
     held = held-append input rest whole
 
     left : 6 * (32 - length (hops ++ here ∷ [])) + 1 ≤ length (afterFirst input)
-    left = omega (arith, length-append hops (here ∷ []), server-taken input kind, after-length input)
+    left = omega (
+      arith,
+      length-append hops (here ∷ []),
+      server-taken input kind,
+      byte-size (kindIn input) .1,
+      after-length input,
+    )
 
 -- ---- From the first byte on.
 

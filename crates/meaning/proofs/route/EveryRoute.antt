@@ -6,12 +6,12 @@ use mathlib.Core.Logic.{inl, inr, Dec·not}
 use mathlib.Core.Option.{Option, none, some}
 use mathlib.Core.List.{List, [], _∷_, _++_}
 use Prim.Native.Nat.{ℕ, zero, suc, _+_, _<_}
-use native.Mathlib.Decide.{decLe, map-dec}
+use native.Mathlib.Decide.{map-dec}
 use native.Mathlib.Omega.{arith}
 use lib.Dec.{lit≤}
 use lib.ListN.{length, length-append}
 use Rattle.meaning.specs.Curve.{Bucket, curveOf, listOf}
-use Rattle.meaning.specs.Server.{Server, join, last, Behind}
+use Rattle.meaning.specs.Server.{Server, join, Behind}
 use Rattle.meaning.specs.Refusal.{HEADER, RANGE, LARGE, number, Lines, _when_, _or_, Clear, accepted, rejected, TooLarge}
 use Rattle.meaning.specs.ServerQuestions.{portLines}
 use Rattle.meaning.specs.Profile.{Profile, curve, server, profileOf, serverIn}
@@ -20,11 +20,11 @@ use Rattle.meaning.specs.Route.{firstFile, afterFirst, IsCurve, IsServer
 use Rattle.meaning.proofs.outcome.Outcomes.{number-positive, Same, Single, UpTo, up-to-or, up-to-when, from-when, refused-first, refused-then}
 use Rattle.meaning.proofs.outcome.Stable.{decide-server}
 use Rattle.meaning.proofs.outcome.Demands.{port-up-to}
-use Rattle.meaning.proofs.outcome.EveryInput.{Decided, decide-line, decide-or, decide-too-large, server-decided, port-decided, HasBytes, bytes-outcome}
+use Rattle.meaning.proofs.outcome.EveryInput.{Decided, decide-line, decide-or, decide-too-large, server-decided, port-decided, decide-outruns, HasBytes, bytes-outcome}
 use Rattle.meaning.proofs.outcome.Bytes.{one-bytes, OnlyBytes, only-bytes}
 use Rattle.meaning.proofs.profile.Outcomes.{file-up-to}
 use Rattle.meaning.proofs.profile.Decided.{file-decided}
-use Rattle.meaning.proofs.server.HopByHop.{behind-unique}
+use Rattle.meaning.proofs.server.BothKinds.{behind-unique}
 use Rattle.meaning.proofs.route.Routes.{one-route}
 use Rattle.meaning.proofs.route.Line.{passable, hop-passable, passable-behind, figures-exist, Through, Sofar, through}
 
@@ -75,8 +75,7 @@ module _ (f : List Bucket) (before : Option Server) (input : List ℕ) where
   operands-decided : Decided operandLines
   operands-decided =
       decide-or (decide-or (due-decided IsServer input (decide-is-server (profileOf input)))
-      (port-decided (listOf f) (serverIn (profileOf input))
-      (decLe (suc (serverIn (profileOf input) .rate)) (last (curveOf (listOf f)) .rate))))
+      (port-decided (listOf f) (serverIn (profileOf input)) (decide-outruns (curveOf (listOf f)) (serverIn (profileOf input)))))
       (join-decided before (serverIn (profileOf input)))
 
   -- each line of a number up to 9,
@@ -121,7 +120,7 @@ at-end :
     {first : List Bucket} {hops : List Figures} {joined : Server} {f : List Bucket} → Through first hops joined f
     → HasReport first hops (some joined) f []
 at-end t =
-    let x = figures-exist (t .form .some) (t .in-range .rate-some) (t .stands) in
+    let x = figures-exist (t .form .some) (t .in-range) (t .stands) in
     record { report = passed _ (x .0); onward = ends (x .0) (x .1) }
 
 -- a server is due: it is refused, or the report goes on behind it
@@ -138,7 +137,7 @@ at-server {first} {hops} {before} {f} {input} short due sofar again = by-lines (
     by-lines (code, accepted clear e) =
         let known = hop-passable f before input clear in
         let b = passable-behind known in
-        let x = figures-exist (known .form .some) (known .in-range .rate-some) b in
+        let x = figures-exist (known .form .some) (known .in-range) b in
         let rest = again (x .0) _ _ (through hops before short known (x .1) b sofar) in
         record { report = rest .report; onward = hop (x .0) _ short due clear (x .1) b (rest .onward) }
 

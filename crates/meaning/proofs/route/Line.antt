@@ -7,24 +7,19 @@ use mathlib.Core.Logic.{inl, inr}
 use mathlib.Core.Option.{Option, none, some}
 use mathlib.Core.List.{List, [], _∷_, _++_, append-assoc, append-nil}
 use Prim.Native.Nat.{ℕ, _+_, _^_, _≤_, _<_}
-use native.Mathlib.Decide.{ℕ-discrete}
 use native.Mathlib.Omega.{arith}
 use lib.ListN.{length, length-append}
-use Rattle.meaning.specs.Curve.{Bucket, listOf, reads, NormalForm}
+use Rattle.meaning.specs.Curve.{Bucket, curveOf, listOf, reads, NormalForm}
 use Rattle.meaning.specs.Server.{Server, join, Behind, Delay, last}
 use Rattle.meaning.specs.Refusal.{Refusal, LARGE, Clear, AllInRange}
 use Rattle.meaning.specs.ServerQuestions.{ServerInRange, portLines}
 use Rattle.meaning.specs.Computed.{behind}
 use Rattle.meaning.specs.Profile.{curve, server, profileOf, bucketsOf, serverIn}
 use Rattle.meaning.specs.Route.{afterFirst, joinLines, joinedWith, hopLines, Figures, FiguresOf, Report, passed, refusedAt, Onward, ends, bytes-left, stops, hop, Reported, no-curve, from-curve}
-use Rattle.meaning.proofs.Order.{not-above}
 use Rattle.meaning.proofs.Lists.{curve-list}
-use Rattle.meaning.proofs.server.Excess.{gap-unique, excess-bounded}
-use Rattle.meaning.proofs.server.Delay.{delay-of-nothing, delay-from-excess}
-use Rattle.meaning.proofs.server.HopByHop.{hop-by-hop, joined-delay}
-use Rattle.meaning.proofs.server.Joining.{smallest-unique, rounded-up-is, last-inside}
-use Rattle.meaning.proofs.server.Behind.{behind-is, backlog-behind}
-use Rattle.meaning.proofs.server.Sizes.{backlog-fits, delay-fits}
+use Rattle.meaning.proofs.server.Excess.{gap-unique}
+use Rattle.meaning.proofs.server.Joining.{last-inside}
+use Rattle.meaning.proofs.server.BothKinds.{backlog-behind, KeepsUp, keeps-up, behind-is, behind-keeps-up, ranged-rate, delay-exists, delay-unique, hop-by-hop, joined-delay, backlog-fits, delay-fits}
 use Rattle.meaning.proofs.outcome.Stable.{server-stable}
 use Rattle.meaning.proofs.route.BackToBack.{due-curve, due-server}
 use Rattle.meaning.proofs.outcome.Answers.{clear-form, clear-fits, fits-ranged}
@@ -75,14 +70,14 @@ pub record Passable (f : List Bucket) (before : Option Server) (s : Server) : Ty
   pub form : NormalForm f
   pub ranged : AllInRange f
   pub in-range : ServerInRange s
-  pub bounded : last f .rate ≤ s .rate
+  pub bounded : KeepsUp f s
   pub joined-in-range : ServerInRange (joinedWith before s)
 
 -- a server that joins those before it is in range with them
 join-ranged :
     (before : Option Server) (s : Server) → ServerInRange s → Clear (joinLines before s) → ServerInRange (joinedWith before s)
 join-ranged none s ranged clear = ranged
-join-ranged (some b) s ranged clear = server-stable (λ out. clear LARGE (inr (refl, (join b s, refl, out))))
+join-ranged (some b) s ranged clear = server-stable (join b s) (λ out. clear LARGE (inr (refl, (join b s, refl, out))))
 
 -- where no line holds of the curve with the server, nor of the joining,
 pub passable :
@@ -93,7 +88,7 @@ passable f before s port joins =
       form = rw curve-list at (clear-form (listOf f) (port-curve (listOf f) s port));
       ranged = rw curve-list at (fits-ranged (clear-fits (listOf f) (port-curve (listOf f) s port)));
       in-range = port-server (listOf f) s port;
-      bounded = rw curve-list at (not-above (port-bounded (listOf f) s port));
+      bounded = rw curve-list at (keeps-up (curveOf (listOf f)) s (port-bounded (listOf f) s port));
       joined-in-range = join-ranged before s (port-server (listOf f) s port) joins;
     }
 
@@ -109,17 +104,12 @@ pub passable-behind : {f : List Bucket} {before : Option Server} {s : Server} �
 passable-behind {f} {s = s} known = behind-is f s (known .form) (known .bounded)
 
 -- where a curve stands behind a server, there are a backlog and a delay
-pub figures-exist : {f g : List Bucket} {s : Server} → 1 ≤ length f → 1 ≤ s .rate → Behind f s g → (x : Figures) × FiguresOf f s x
-figures-exist {f} {g} {s} filled serves b =
-    elim (ℕ-discrete (reads f 1) 0) [
-      | yes e ↦ with-delay (delay-of-nothing f s filled e)
-      | no e ↦ with-delay (delay-from-excess f s _ (b .excess) (rounded-up-is (b .m) (s .rate) serves) e)
-    ]
-  where
-    with-delay : {d : ℕ} → Delay f s d → (x : Figures) × FiguresOf f s x
-    with-delay {d} h = (
-      record { backlog = reads g 0; delay = d },
-      record { backlog-is = backlog-behind filled b; delay-is = h },
+pub figures-exist :
+    {f g : List Bucket} {s : Server} → 1 ≤ length f → ServerInRange s → Behind f s g → (x : Figures) × FiguresOf f s x
+figures-exist {f} {g} {s} filled in-range b =
+    let d = delay-exists (ranged-rate s in-range) b in (
+      record { backlog = reads g 0; delay = d .0 },
+      record { backlog-is = backlog-behind filled b; delay-is = d .1 },
     )
 
 -- and of a curve and a server in range they are small
@@ -127,11 +117,11 @@ figures-small :
     {f g : List Bucket} {s : Server} {x : Figures}
     → NormalForm f → AllInRange f → ServerInRange s → Behind f s g → FiguresOf f s x → Small x
 figures-small {f} {s = s} form ranged in-range b x =
-    let inside = last-inside f (form .some) in
-    let slow = excess-bounded form (b .excess) in
+    let last-ranged = ranged (last f) (last-inside f (form .some)) in
+    let slow = behind-keeps-up form b in
     record {
-      backlog-small = backlog-fits f s inside (ranged (last f) inside) in-range slow (x .backlog-is);
-      delay-small = delay-fits f s inside (ranged (last f) inside) in-range slow (x .delay-is);
+      backlog-small = backlog-fits f (form .some) last-ranged s in-range slow (x .backlog-is);
+      delay-small = delay-fits f (form .some) last-ranged s in-range slow (x .delay-is);
     }
 
 -- ---- The route line.
@@ -215,15 +205,15 @@ pub through :
 through hops {f} {g} none {s} {here} short known x b sofar =
     rw (← sofar .0)
     (passes hops short known x b (known .form) (known .ranged) b (rw (sofar .1) tt)
-    (λ n h. omega (arith, smallest-unique h (x .delay-is))))
+    (λ n h. omega (arith, delay-unique h (x .delay-is))))
 through hops (some joined) {s} {here} {first} short known x b t =
     passes hops short known x b (t .form) (t .ranged) (hop-by-hop (t .form .some) (t .stands) b) (t .small) within
   where
     within : (n : ℕ) → Delay first (join joined s) n → n ≤ delays hops + here .delay
     within n h =
-        let y = figures-exist (t .form .some) (t .in-range .rate-some) (t .stands) in
+        let y = figures-exist (t .form .some) (t .in-range) (t .stands) in
         omega
-        (arith, joined-delay s (t .form .some) (t .stands) (y .1 .delay-is) (x .delay-is) h, t .line (y .0) (y .1) .delay-within)
+        (arith, joined-delay (t .form .some) (t .stands) (y .1 .delay-is) (x .delay-is) h, t .line (y .0) (y .1) .delay-within)
 
 -- What a report says of its route, if it has one.
 abbrev Says : Report → Type 0

@@ -9,20 +9,21 @@ use Prim.Native.Nat.{ℕ, _+_, _≤_, _<_}
 use native.Mathlib.Omega.{arith}
 use lib.ListN.{length, take, drop, length-append, length-take, length-drop, take-append-drop}
 use Rattle.meaning.specs.Curve.{Bucket}
-use Rattle.meaning.specs.Server.{Server, join, last, Behind}
+use Rattle.meaning.specs.Server.{Server, join, Behind}
 use Rattle.meaning.specs.Refusal.{UNBOUNDED, LARGE, number, Clear, Verdict, accepted, TooLarge}
-use Rattle.meaning.specs.ServerQuestions.{ServerInRange}
-use Rattle.meaning.specs.Profile.{edition, curveKind, serverKind, server, written, editionOf, kindIn, profileOf, bytesTaken, fileLines}
+use Rattle.meaning.specs.ServerQuestions.{ServerInRange, Outruns}
+use Rattle.meaning.specs.Profile.{curveKind, server, kindOf, Known, written, editionOf, kindIn, profileOf, bytesTaken, fileLines}
 use Rattle.meaning.specs.Route.{firstFile, bytes, digits, numbers, refusedText, IsCurve, IsServer, dueLines, joinLines, hopLines, Figures}
 use Rattle.meaning.proofs.Lists.{curve-list}
 use Rattle.meaning.proofs.outcome.Outcomes.{line-hit, clear-or, refused-then}
+use Rattle.meaning.proofs.server.BothKinds.{KeepsUp}
 use Rattle.meaning.proofs.profile.Files.{more-than-one-byte, kind-append}
 use Rattle.meaning.proofs.profile.RoundTrip.{read-back-server, clear-whole}
 use Rattle.meaning.proofs.profile.Refusals.{cut-short}
 use Rattle.meaning.proofs.route.BackToBack.{first-whole, first-cut, kind-cut, begins}
 use Rattle.meaning.proofs.route.EveryRoute.{OnlyText, only-text}
 use Rattle.meaning.proofs.route.Line.{JoinedInRange}
-use Rattle.meaning.proofs.route.Winning.{not-due, nothing-there, other-edition-there, other-kind-there, curve-there, server-file-decides, curve-file-decides, reading-decides, port-decides, join-decides, behind-decides}
+use Rattle.meaning.proofs.route.Winning.{not-due, nothing-there, unknown-there, curve-there, server-file-decides, curve-file-decides, reading-decides, port-decides, join-decides, behind-decides}
 use Rattle.meaning.proofs.route.Standing.{Standing, curve-refused, standing-over, standing-stops}
 use Rattle.meaning.proofs.route.Written.{Sound, sound-lines, due-clear, port-clear, file-there}
 
@@ -38,10 +39,10 @@ module _ (input : List ℕ) where
   unfolding refusedText numbers digits bytes
   no-curve-due other = refused-at-1 {code = 1} (not-due IsCurve input other) (λ e. omega arith)
 
-  -- and so is another edition
-  pub other-edition : editionOf input ≢ edition → OnlyText input (bytes "refused 1 at 1\n")
+  -- and so is a kind that the edition does not have
+  pub unknown-header : (Known (editionOf input) (kindIn input) → ⊥) → OnlyText input (bytes "refused 1 at 1\n")
   unfolding refusedText numbers digits bytes
-  other-edition other = refused-at-1 {code = 1} (other-edition-there IsCurve input other) (λ e. omega arith)
+  unknown-header out = refused-at-1 {code = 1} (unknown-there IsCurve input out) (λ e. omega arith)
 
 -- the empty input
 pub empty-input : OnlyText [] (bytes "refused 1 at 1\n")
@@ -50,9 +51,10 @@ empty-input = refused-at-1 [] {code = 1} (nothing-there IsCurve) (λ e. omega ar
 
 -- a server where the curve is due
 pub server-first :
-    (s : Server) → ServerInRange s → (rest : List ℕ) → OnlyText (written edition (server s) ++ rest) (bytes "refused 1 at 1\n")
-server-first s ranged rest =
-    no-curve-due (written edition (server s) ++ rest) (λ due. rw (begins (read-back-server s ranged) rest .holds) at due)
+    (ed : ℕ) (s : Server) → Known ed (kindOf (server s)) → ServerInRange s → (rest : List ℕ)
+    → OnlyText (written ed (server s) ++ rest) (bytes "refused 1 at 1\n")
+server-first ed s has ranged rest =
+    no-curve-due (written ed (server s) ++ rest) (λ due. rw (begins (read-back-server ed s has ranged) rest .holds) at due)
 
 -- A file of which no line holds, cut short: its first byte and not all.
 module _ (file : List ℕ) (clear : Clear (fileLines file)) (k : ℕ) (begun : 1 ≤ k) (short : k < length file) where
@@ -121,14 +123,9 @@ module _
       pub nothing-for-server : rest ≡ [] → OnlyText input (refusedText 1 (length hops + 2))
       nothing-for-server e = refused-in-reading {code = 1} (rw e (nothing-there IsServer)) (λ e. omega arith)
 
-      -- another edition,
-      pub edition-for-server : editionOf rest ≢ edition → OnlyText input (refusedText 1 (length hops + 2))
-      edition-for-server other = refused-in-reading {code = 1} (other-edition-there IsServer rest other) (λ e. omega arith)
-
-      -- and another kind
-      pub kind-for-server : kindIn rest ≢ curveKind → kindIn rest ≢ serverKind → OnlyText input (refusedText 1 (length hops + 2))
-      kind-for-server no-curve no-server =
-          refused-in-reading {code = 1} (other-kind-there IsServer rest no-curve no-server) (λ e. omega arith)
+      -- and a kind that the edition does not have
+      pub unknown-for-server : (Known (editionOf rest) (kindIn rest) → ⊥) → OnlyText input (refusedText 1 (length hops + 2))
+      unknown-for-server out = refused-in-reading {code = 1} (unknown-there IsServer rest out) (λ e. omega arith)
 
 -- A server's file cut short.
 pub cut-server :
@@ -156,31 +153,32 @@ refused-server-file file rest here short c kind whole v nonzero =
     (λ e. kind (sym (kind-append file rest (omega arith)) ∙ e)))
     nonzero
 
--- A server in range stands there, whatever stands behind it; the curve from the hop before is sound.
+-- A server in range stands there, in an edition that has its kind, whatever stands behind it; the curve from the hop before is sound.
 module _
     {input : List ℕ} {first : List Bucket} {hops : List Figures} {joined : Option Server} {f : List Bucket}
-    (s : Server) (rest : List ℕ) (here : Standing input first hops joined f (written edition (server s) ++ rest)) (short : length hops < 32)
-    (c : Sound f) (ranged : ServerInRange s)
+    (ed : ℕ) (s : Server) (has : Known ed (kindOf (server s))) (rest : List ℕ)
+    (here : Standing input first hops joined f (written ed (server s) ++ rest)) (short : length hops < 32) (c : Sound f)
+    (ranged : ServerInRange s)
   where
     -- it is read,
-    read : Clear (dueLines IsServer (written edition (server s) ++ rest))
-    read = due-clear IsServer tt (read-back-server s ranged) (begins (read-back-server s ranged) rest)
+    read : Clear (dueLines IsServer (written ed (server s) ++ rest))
+    read = due-clear IsServer tt (read-back-server ed s has ranged) (begins (read-back-server ed s has ranged) rest)
 
-    holds : profileOf (written edition (server s) ++ rest) ≡ server s
-    holds = begins (read-back-server s ranged) rest .holds
+    holds : profileOf (written ed (server s) ++ rest) ≡ server s
+    holds = begins (read-back-server ed s has ranged) rest .holds
 
     -- so that what wins among the other lines is named there
     refused-beside :
-        {code : ℕ} → Verdict (hopLines f joined (written edition (server s) ++ rest)) code → code ≢ 0
+        {code : ℕ} → Verdict (hopLines f joined (written ed (server s) ++ rest)) code → code ≢ 0
         → OnlyText input (refusedText code (length hops + 2))
-    refused-beside = refused-here here short (λ e. absurd (file-there s rest e)) c
+    refused-beside = refused-here here short (λ e. absurd (file-there ed s rest e)) c
 
     -- the last rate above R is 8,
-    pub last-rate-above : JoinedInRange joined → s .rate < last f .rate → OnlyText input (refusedText 8 (length hops + 2))
+    pub last-rate-above : JoinedInRange joined → Outruns f s → OnlyText input (refusedText 8 (length hops + 2))
     unfolding number
     last-rate-above before above =
         refused-beside {code = 8}
-        (port-decides f joined (written edition (server s) ++ rest) read before
+        (port-decides f joined (written ed (server s) ++ rest) read before
         (rw holds
         (refused-then (accepted (clear-or (sound-lines c) (λ r h. h .1 ranged)) refl) (line-hit UNBOUNDED (rw curve-list above))))
         (λ e. omega arith))
@@ -188,27 +186,28 @@ module _
 
     -- and a curve behind that is too large is 9
     pub behind-too-large :
-        {g : List Bucket} → last f .rate ≤ s .rate → Clear (joinLines joined s) → Behind f s g → TooLarge g
+        {g : List Bucket} → KeepsUp f s → Clear (joinLines joined s) → Behind f s g → TooLarge g
         → OnlyText input (refusedText 9 (length hops + 2))
     unfolding number
     behind-too-large {g} slow joins behind large =
         refused-beside {code = 9}
-        (behind-decides f joined (written edition (server s) ++ rest) read (rw holds joins)
-        (rw holds (refused-then (accepted (port-clear c ranged slow) refl) (line-hit LARGE (g, behind, large)))))
+        (behind-decides f joined (written ed (server s) ++ rest) read (rw holds joins)
+        (rw holds (refused-then (accepted (port-clear s c ranged slow) refl) (line-hit LARGE (g, behind, large)))))
         (λ e. omega arith)
 
 -- A joined server out of range is 9.
 pub joined-out-of-range :
-    {input : List ℕ} {first : List Bucket} {hops : List Figures} {before : Server} {f : List Bucket} (s : Server) (rest : List ℕ)
-    → Standing input first hops (some before) f (written edition (server s) ++ rest) → length hops < 32 → Sound f
-    → ServerInRange s → last f .rate ≤ s .rate → ServerInRange before → (ServerInRange (join before s) → ⊥)
+    {input : List ℕ} {first : List Bucket} {hops : List Figures} {before : Server} {f : List Bucket}
+    (ed : ℕ) (s : Server) (has : Known ed (kindOf (server s))) (rest : List ℕ)
+    → Standing input first hops (some before) f (written ed (server s) ++ rest) → length hops < 32 → Sound f
+    → ServerInRange s → KeepsUp f s → ServerInRange before → (ServerInRange (join before s) → ⊥)
     → OnlyText input (refusedText 9 (length hops + 2))
 unfolding number
-joined-out-of-range {before = before} {f = f} s rest here short c ranged slow earlier out =
-    refused-beside s rest here short c ranged {code = 9}
-    (join-decides f (some before) (written edition (server s) ++ rest) (read s rest here short c ranged)
-    (rw (holds s rest here short c ranged) (port-clear c ranged slow))
-    (rw (holds s rest here short c ranged)
+joined-out-of-range {before = before} {f = f} ed s has rest here short c ranged slow earlier out =
+    refused-beside ed s has rest here short c ranged {code = 9}
+    (join-decides f (some before) (written ed (server s) ++ rest) (read ed s has rest here short c ranged)
+    (rw (holds ed s has rest here short c ranged) (port-clear s c ranged slow))
+    (rw (holds ed s has rest here short c ranged)
     (refused-then (accepted (clear-or (λ r h. h .1 earlier) (λ r h. h .1 ranged)) refl)
     (line-hit LARGE (join before s, refl, out))))
     (λ e. omega arith))

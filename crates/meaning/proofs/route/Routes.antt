@@ -13,8 +13,7 @@ use Rattle.meaning.specs.Refusal.{Refusal, HEADER, LENGTH, PAD, LIST, CO
 use Rattle.meaning.specs.Route.{Figures, FiguresOf, Report, passed, refusedAt, Onward, ends, bytes-left, stops, hop, Reported, no-curve, from-curve, text, Route}
 use Rattle.meaning.proofs.outcome.Outcomes.{wins-once}
 use Rattle.meaning.proofs.server.Excess.{gap-unique}
-use Rattle.meaning.proofs.server.HopByHop.{behind-unique}
-use Rattle.meaning.proofs.server.Joining.{smallest-unique}
+use Rattle.meaning.proofs.server.BothKinds.{behind-unique, delay-unique}
 
 -- the refusal of a number
 named : ℕ → Refusal
@@ -45,7 +44,7 @@ figures-unique v w =
     λ i.
     record {
       backlog = gap-unique (v .backlog-is) (w .backlog-is) i;
-      delay = smallest-unique (v .delay-is) (w .delay-is) i;
+      delay = delay-unique (v .delay-is) (w .delay-is) i;
     }
 
 -- a server is not none

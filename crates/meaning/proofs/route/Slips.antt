@@ -10,8 +10,8 @@ use lib.Dec.{lit≤}
 use lib.ListN.{length, take, getD}
 use Rattle.meaning.specs.Curve.{Bucket, buckets, reads, valueAt}
 use Rattle.meaning.specs.Server.{last, port}
-use Rattle.meaning.specs.Computed.{normal, behind, backlog, delay}
-use Rattle.meaning.specs.Profile.{edition, curve, server, written}
+use Rattle.meaning.specs.Computed.{normal, behind, backlog, held, delay}
+use Rattle.meaning.specs.Profile.{curve, server, written}
 use Rattle.meaning.specs.Figures.{C}
 use Rattle.meaning.specs.Route.{bytes, digits, numbers, hopText, hopTexts, Route}
 use Rattle.meaning.proofs.Figures.{c-sound}
@@ -57,13 +57,13 @@ delays-added = other-byte twice-outcome 28 (λ e. omega arith)
 
 -- a refusal of a later profile named before an earlier one: the server of rate 0 is the second profile, whatever the third is
 pub later-refusal-first :
-    (rest : List ℕ) → Route (written edition (curve C) ++ (idle-file ++ rest)) (bytes "refused 1 at 3\n") → ⊥
+    (rest : List ℕ) → Route (written 1 (curve C) ++ (idle-file ++ rest)) (bytes "refused 1 at 3\n") → ⊥
 unfolding bytes
 later-refusal-first rest = other-byte (rate-nothing c-sound rest) 8 (λ e. omega arith)
 
 -- a larger number named before a smaller one at one server: UNBOUNDED before RANGE,
 pub unbounded-before-range :
-    (rest : List ℕ) → Route (written edition (curve C) ++ (idle-file ++ rest)) (bytes "refused 8 at 2\n") → ⊥
+    (rest : List ℕ) → Route (written 1 (curve C) ++ (idle-file ++ rest)) (bytes "refused 8 at 2\n") → ⊥
 unfolding bytes
 unbounded-before-range rest = other-byte (rate-nothing c-sound rest) 8 (λ e. omega arith)
 
@@ -71,8 +71,8 @@ unbounded-before-range rest = other-byte (rate-nothing c-sound rest) 8 (λ e. om
 pub large-before-unbounded :
     (rest : List ℕ)
     → Route
-    (written edition (curve (buckets (2 ∷ 0 ∷ [])))
-    ++ (written edition (server (port 2 1048575)) ++ (written edition (server (port 1 1)) ++ rest)))
+    (written 1 (curve (buckets (2 ∷ 0 ∷ [])))
+    ++ (written 1 (server (port 2 1048575)) ++ (written 1 (server (port 1 1)) ++ rest)))
     (bytes "refused 9 at 3\n")
     → ⊥
 unfolding bytes
@@ -80,15 +80,15 @@ large-before-unbounded rest = other-byte (slow-and-late rest) 8 (λ e. omega ari
 
 -- the number and the profile exchanged: a curve cut short is 2 at 1
 pub number-and-place-exchanged :
-    {f : List Bucket} → Sound f → (k : ℕ) → 1 ≤ k → k < length (written edition (curve f))
-    → Route (take k (written edition (curve f))) (bytes "refused 1 at 2\n") → ⊥
+    {f : List Bucket} → Sound f → (k : ℕ) → 1 ≤ k → k < length (written 1 (curve f))
+    → Route (take k (written 1 (curve f))) (bytes "refused 1 at 2\n") → ⊥
 unfolding bytes
 number-and-place-exchanged c k begun short = other-byte (curve-cut c k begun short) 8 (λ e. omega arith)
 
 -- the lines of the hops before it printed in front of a refusal
 pub hops-before-a-refusal :
     (rest : List ℕ)
-    → Route (written edition (curve C) ++ (written edition (server (port 6 4)) ++ (idle-file ++ rest)))
+    → Route (written 1 (curve C) ++ (written 1 (server (port 6 4)) ++ (idle-file ++ rest)))
     (bytes "hop 1 32 6\nrefused 6 at 3\n")
     → ⊥
 unfolding bytes
@@ -97,15 +97,15 @@ hops-before-a-refusal rest = other-byte (second-refused rest) 0 (λ e. omega ari
 -- the servers counted without the curve: a refusal at the second server named at 2
 pub place-without-the-curve :
     (rest : List ℕ)
-    → Route (written edition (curve C) ++ (written edition (server (port 6 4)) ++ (idle-file ++ rest))) (bytes "refused 6 at 2\n")
+    → Route (written 1 (curve C) ++ (written 1 (server (port 6 4)) ++ (idle-file ++ rest))) (bytes "refused 6 at 2\n")
     → ⊥
 unfolding bytes
 place-without-the-curve rest = other-byte (second-refused rest) 13 (λ e. omega arith)
 
 -- bytes after 32 servers ignored
 pub bytes-after-32-ignored :
-    (rest : List ℕ) → rest ≢ [] → Route (written edition (curve (buckets (0 ∷ most ∷ []))) ++ servers 32 rest) longest-text → ⊥
-unfolding bytes digits numbers hopText hopTexts repeated buckets normal behind backlog delay reads valueAt last
+    (rest : List ℕ) → rest ≢ [] → Route (written 1 (curve (buckets (0 ∷ most ∷ []))) ++ servers 32 rest) longest-text → ⊥
+unfolding bytes digits numbers hopText hopTexts repeated buckets normal behind backlog held delay reads valueAt last
 bytes-after-32-ignored rest more =
     let f = one-bucket 0 most (omega arith) in
     other-byte (after-32 f (lit≤ tt) (worked (port 1 0) f (lit≤ tt) (lit≤ tt)) rest more) 0 (λ e. omega arith)

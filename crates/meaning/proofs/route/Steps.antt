@@ -21,7 +21,7 @@ use Rattle.meaning.proofs.Lists.{curve-list}
 use Rattle.meaning.proofs.outcome.Outcomes.{clear-or}
 use Rattle.meaning.proofs.outcome.Answers.{fits-few, fits-ranged, sound-clear}
 use Rattle.meaning.proofs.outcome.Demands.{figure-clear}
-use Rattle.meaning.proofs.server.Excess.{excess-bounded}
+use Rattle.meaning.proofs.server.BothKinds.{not-outrun, behind-form, behind-keeps-up}
 use Rattle.meaning.proofs.profile.Files.{held-few, read-in-range}
 use Rattle.meaning.proofs.route.BackToBack.{due-curve-whole, due-form, due-server-whole}
 use Rattle.meaning.proofs.route.Line.{figures-exist, Sofar, sofar-small, through, hop-passable}
@@ -132,7 +132,7 @@ module _
                 );
             first-taken = go .first-taken;
             list-is = rw curve-list;
-            taken = sound-clear g (behind .normal .form) (fits-ranged fits) (fits-few fits);
+            taken = sound-clear g (behind-form behind) (fits-ranged fits) (fits-few fits);
             sofar =
                 rw (curve-list g)
                 (through (go .hops) joined early (hop-passable (curveOf f) joined (drop at input) clear) figures behind
@@ -150,7 +150,7 @@ module _
   where
     -- the servers joined have figures over the first curve: once every hop is answered, the route line is never refused;
     pub going-figures : (x : Figures) × FiguresOf (curveOf first) joined x
-    going-figures = figures-exist (go .sofar .form .some) (go .sofar .in-range .rate-some) (go .sofar .stands)
+    going-figures = figures-exist (go .sofar .form .some) (go .sofar .in-range) (go .sofar .stands)
 
     module _ (all : length input ≤ at) where
       -- it follows the hops' lines,
@@ -174,4 +174,4 @@ module _
           clear : Clear (portLines first joined)
           clear =
               clear-or (clear-or (go .first-taken) (λ r h. h .1 (go .sofar .in-range)))
-              (λ r h. omega (arith, h .1, excess-bounded (go .sofar .form) (go .sofar .stands .excess)))
+              (λ r h. not-outrun (curveOf first) joined (behind-keeps-up (go .sofar .form) (go .sofar .stands)) (h .1))

@@ -16,7 +16,7 @@ use Rattle.meaning.specs.Curve.{Bucket, listOf}
 use Rattle.meaning.specs.Server.{Server, Behind}
 use Rattle.meaning.specs.Refusal.{Refusal, HEADER, LENGTH, PAD, RANGE, UNBOUNDED, LARGE, number, Lines, _when_, _or_, Wins, Clear, Verdict, accepted, rejected, TooLarge, curveLines}
 use Rattle.meaning.specs.ServerQuestions.{ServerInRange, portLines}
-use Rattle.meaning.specs.Profile.{edition, curveKind, serverKind, Profile, curve, server, editionOf, kindIn, profileOf, bytesTaken, profileLines, fileLines, serverIn}
+use Rattle.meaning.specs.Profile.{curveKind, Known, Profile, curve, server, editionOf, kindIn, profileOf, bytesTaken, profileLines, fileLines, serverIn}
 use Rattle.meaning.specs.Route.{firstFile, IsCurve, IsServer, dueLines, joinLines, hopLines}
 use Rattle.meaning.proofs.outcome.Outcomes.{number-positive, From, from-when, from-or, UpTo, up-to-when, up-to-or, line-miss, clear-or, refused-then}
 use Rattle.meaning.proofs.outcome.Demands.{port-up-to}
@@ -36,9 +36,7 @@ not-due Due input other =
 -- and so is a header that is wrong,
 header-there :
     (Due : Profile → Type 0) (input : List ℕ)
-    → (length (firstFile input) ≡ 0)
-    ⊎ (editionOf (firstFile input) ≢ edition)
-    ⊎ ((kindIn (firstFile input) ≢ curveKind) × (kindIn (firstFile input) ≢ serverKind))
+    → (length (firstFile input) ≡ 0) ⊎ (Known (editionOf (firstFile input)) (kindIn (firstFile input)) → ⊥)
     → Verdict (dueLines Due input) 1
 unfolding number
 header-there Due input h =
@@ -49,18 +47,11 @@ pub nothing-there : (Due : Profile → Type 0) → Verdict (dueLines Due []) 1
 unfolding firstFile
 nothing-there Due = header-there Due [] (inl (ap length (take-nil (bytesTaken []))))
 
--- another edition,
-pub other-edition-there : (Due : Profile → Type 0) (input : List ℕ) → editionOf input ≢ edition → Verdict (dueLines Due input) 1
-other-edition-there Due input other =
-    header-there Due input (inr (inl (λ e. other (sym (same-start input .edition-same) ∙ e))))
-
--- another kind,
-pub other-kind-there :
-    (Due : Profile → Type 0) (input : List ℕ) → kindIn input ≢ curveKind → kindIn input ≢ serverKind
-    → Verdict (dueLines Due input) 1
-other-kind-there Due input no-curve no-server =
-    header-there Due input
-    (inr (inr (λ e. no-curve (sym (same-start input .kind-same) ∙ e), λ e. no-server (sym (same-start input .kind-same) ∙ e))))
+-- a kind that the edition does not have,
+pub unknown-there :
+    (Due : Profile → Type 0) (input : List ℕ) → (Known (editionOf input) (kindIn input) → ⊥) → Verdict (dueLines Due input) 1
+unknown-there Due input out =
+    header-there Due input (inr (rw (same-start input .edition-same, same-start input .kind-same) out))
 
 module _ (input : List ℕ) where
   -- a curve where a server is due,

@@ -9,7 +9,7 @@ use native.Mathlib.Nat.{le-of-lt, le-refl, mul-one, add-assoc, zero-add, mul-le-
 use native.Mathlib.Omega.{arith}
 use lib.ListN.{length}
 use Rattle.meaning.specs.Curve.{Bucket, bucketAt, valueAt, NormalForm, reads}
-use Rattle.meaning.specs.Server.{RateLatency, served, GreatestGap, Excess, Behind, Backlog, last}
+use Rattle.meaning.specs.Server.{RateLatency, rated, byRate, served, GreatestGap, Excess, BehindRated, Backlog, last}
 use Rattle.meaning.specs.Computed.{excess, behind, backlog}
 use Rattle.meaning.proofs.Order.{le-or-lt}
 use Rattle.meaning.proofs.curve.Value.{value-least, some}
@@ -30,8 +30,8 @@ cutLater f s m t = cutAt f (s .rate) m (t + s .latency) 1
 module _ (f : List Bucket) (s : RateLatency) (m : ℕ) (e : Excess f (s .rate) m) (t : ℕ) where
   -- the curve at t+u is no more above it than what is served by u:
   -- the line, or the bucket of rate at most R, that has the cut's value is not below the curve, and rises no faster than R
-  cut-over : (u : ℕ) → reads f (t + u) ≤ served s u + cutLater f s m t
-  unfolding served reads bucketAt
+  cut-over : (u : ℕ) → reads f (t + u) ≤ byRate s u + cutLater f s m t
+  unfolding byRate reads bucketAt
   cut-over u =
       elim (cut-reached (s .rate) m (t + s .latency) 1 f) [
         | by-line c ↦
@@ -42,30 +42,30 @@ module _ (f : List Bucket) (s : RateLatency) (m : ℕ) (e : Excess f (s .rate) m
 
   -- where M is reached y after t+T, the curve is as much above it at T+y,
   cut-at-excess :
-      (y : ℕ) → t + s .latency + y ≡ e .at → reads f (t + (s .latency + y)) ≡ served s (s .latency + y) + cutLater f s m t
+      (y : ℕ) → t + s .latency + y ≡ e .at → reads f (t + (s .latency + y)) ≡ byRate s (s .latency + y) + cutLater f s m t
   cut-at-excess y sum =
       ap (reads f) (sym (add-assoc _ _ _) ∙ sum) ∙ omega (arith, e .reached, on-line, by-then, ap (λ u. s .rate * u) sum)
     where
       on-line : cutLater f s m t ≡ s .rate * (t + s .latency) + m * 1
       on-line = cut-early f (s .rate) m (e .at) (e .reached) (t + s .latency) 1 (omega arith)
 
-      by-then : served s (s .latency + y) ≡ s .rate * y
+      by-then : byRate s (s .latency + y) ≡ s .rate * y
       by-then = served-past s y refl
 
   -- and where M is reached before t+T, at T
   cut-at-latency :
-      1 ≤ length f → e .at ≤ t + s .latency → reads f (t + s .latency) ≡ served s (s .latency) + cutLater f s m t
+      1 ≤ length f → e .at ≤ t + s .latency → reads f (t + s .latency) ≡ byRate s (s .latency) + cutLater f s m t
   unfolding reads
   cut-at-latency has h = omega (arith, e .greatest (t + s .latency), on-curve, by-then)
     where
       on-curve : cutLater f s m t ≡ min (valueAt f (t + s .latency) 1) (s .rate * (t + s .latency) + m * 1)
       on-curve = cut-late f (s .rate) m (e .at) (e .reached) has (t + s .latency) 1 (omega arith)
 
-      by-then : served s (s .latency) ≡ s .rate * 0
+      by-then : byRate s (s .latency) ≡ s .rate * 0
       by-then = served-past s 0 (omega arith)
 
   -- so it is the greatest difference
-  pub cut-gap : 1 ≤ length f → GreatestGap (λ u. reads f (t + u)) (served s) (cutAt f (s .rate) m (t + s .latency) 1)
+  pub cut-gap : 1 ≤ length f → GreatestGap (λ u. reads f (t + u)) (served (rated s)) (cutAt f (s .rate) m (t + s .latency) 1)
   cut-gap has =
       elim (le-or-lt (t + s .latency) (e .at)) [
         | inl h ↦
@@ -75,21 +75,21 @@ module _ (f : List Bucket) (s : RateLatency) (m : ℕ) (e : Excess f (s .rate) m
       ]
 
 -- behind, by tick t, is the greatest gap between what has come by t+u and what the server has done by u, for whole u
-pub behind-greatest :
-    {f g : List Bucket} {s : RateLatency} → 1 ≤ length f → Behind f s g → (t : ℕ)
-    → GreatestGap (λ u. reads f (t + u)) (served s) (reads g t)
+pub rated-behind-greatest :
+    {f g : List Bucket} {s : RateLatency} → 1 ≤ length f → BehindRated f s g → (t : ℕ)
+    → GreatestGap (λ u. reads f (t + u)) (served (rated s)) (reads g t)
 unfolding reads
-behind-greatest {f} {g} {s} has b t =
+rated-behind-greatest {f} {g} {s} has b t =
     rw (behind-cut b t 1 (omega arith), mul-one (s .latency)) (cut-gap f s (b .m) (b .excess) t has)
 
 -- the backlog is the burst of the curve behind
-pub backlog-behind : {f g : List Bucket} {s : RateLatency} → 1 ≤ length f → Behind f s g → Backlog f s (reads g 0)
-backlog-behind has b = simp zero-add at (behind-greatest has b 0)
+pub rated-backlog-behind : {f g : List Bucket} {s : RateLatency} → 1 ≤ length f → BehindRated f s g → Backlog f (rated s) (reads g 0)
+rated-backlog-behind has b = simp zero-add at (rated-behind-greatest has b 0)
 
 -- the computed curve is the one behind
-pub behind-is : (f : List Bucket) (s : RateLatency) → NormalForm f → last f .rate ≤ s .rate → Behind f s (behind f s)
+pub rated-behind-is : (f : List Bucket) (s : RateLatency) → NormalForm f → last f .rate ≤ s .rate → BehindRated f s (behind f (rated s))
 unfolding behind
-behind-is f s n slow =
+rated-behind-is f s n slow =
     record {
       m = excess f (s .rate);
       excess = excess-is (s .rate) n slow;
@@ -97,11 +97,6 @@ behind-is f s n slow =
     }
 
 -- the computed number is the backlog
-pub backlog-is : (f : List Bucket) (s : RateLatency) → NormalForm f → last f .rate ≤ s .rate → Backlog f s (backlog f s)
+pub rated-backlog-is : (f : List Bucket) (s : RateLatency) → NormalForm f → last f .rate ≤ s .rate → Backlog f (rated s) (backlog f (rated s))
 unfolding backlog
-backlog-is f s n slow = backlog-behind (n .some) (behind-is f s n slow)
-
--- a curve that is at no tick above another has no larger backlog
-pub backlog-rises :
-    (f g : List Bucket) (s : RateLatency) {m n : ℕ} → ((t : ℕ) → reads f t ≤ reads g t) → Backlog f s m → Backlog g s n → m ≤ n
-backlog-rises f g s below b c = omega (arith, b .reached, below (b .at), c .greatest (b .at))
+rated-backlog-is f s n slow = rated-backlog-behind (n .some) (rated-behind-is f s n slow)

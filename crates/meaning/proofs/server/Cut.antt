@@ -13,7 +13,7 @@ use lib.ListN.{length}
 use lib.Dec.{leb}
 use borrow.Author.Tests.{leb-true, le-leb}
 use Rattle.meaning.specs.Curve.{Bucket, _∈_, bucketAt, valueAt, reads}
-use Rattle.meaning.specs.Server.{RateLatency, later, slower, Behind}
+use Rattle.meaning.specs.Server.{RateLatency, later, slower, BehindRated}
 use Rattle.meaning.proofs.Order.{le-or-lt, crosswise}
 use Rattle.meaning.proofs.curve.Value.{some, same-bucket-at, value-least, value-reached, below-value, value-unique}
 
@@ -145,7 +145,7 @@ cut-list f s m p q =
 
 -- a curve behind a server is the cut, a latency later
 pub behind-cut :
-    {f g : List Bucket} {s : RateLatency} (b : Behind f s g) (p q : ℕ) → 0 < q
+    {f g : List Bucket} {s : RateLatency} (b : BehindRated f s g) (p q : ℕ) → 0 < q
     → valueAt g p q ≡ cutAt f (s .rate) (b .m) (p + s .latency * q) q
 behind-cut {f} {g} {s} b p q h = sym (b .normal .same p q h) ∙ cut-list f s (b .m) p q
 

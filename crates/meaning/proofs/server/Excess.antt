@@ -12,7 +12,7 @@ use lib.ListN.{length, take, getD, length-append}
 use lib.Seq.{append-snoc, take-at, getD-at}
 use borrow.Author.Tests.{le-leb, lt-leb}
 use Rattle.meaning.specs.Curve.{Bucket, _∈_, bucketAt, Falling, Useful, NormalForm, Crossing, reads}
-use Rattle.meaning.specs.Server.{GreatestGap, Excess, last}
+use Rattle.meaning.specs.Server.{Amount, upTo, noLimit, _within_, _fill_, _plus_, GreatestGap, Excess, last}
 use Rattle.meaning.specs.Computed.{excessAt, excessFrom, excess}
 use Rattle.meaning.proofs.Order.{le-or-lt, not-above, crosswise}
 use Rattle.meaning.proofs.Lists.{cons-each, append-each}
@@ -21,9 +21,16 @@ use Rattle.meaning.proofs.server.Joining.{last-slowest}
 use Rattle.meaning.proofs.curve.Neighbours.{Meet, meet, meet-at, before-if-below, after-if-below}
 use Rattle.meaning.proofs.curve.Reads.{below-other, burst-below, first-burst}
 
+-- what is all of an amount and m bits more is within it and n more only if n is not below m
+pub filled-least : (x : Amount) (a m n : ℕ) → a fill (x plus m) → a within (x plus n) → m ≤ n
+filled-least (upTo k) a m n all inside = omega arith
+filled-least noLimit a m n all inside = absurd all
+
 -- the greatest gap is one number
-pub gap-unique : {a b : ℕ → ℕ} {m n : ℕ} → GreatestGap a b m → GreatestGap a b n → m ≡ n
-gap-unique g h = omega (arith, g .reached, h .reached, g .greatest (h .at), h .greatest (g .at))
+pub gap-unique : {a : ℕ → ℕ} {b : ℕ → Amount} {m n : ℕ} → GreatestGap a b m → GreatestGap a b n → m ≡ n
+gap-unique {a} {b} {m} {n} g h =
+    le-antisymm (filled-least (b (g .at)) (a (g .at)) m n (g .reached) (h .greatest (g .at)))
+    (filled-least (b (h .at)) (a (h .at)) n m (h .reached) (g .greatest (h .at)))
 
 -- What is read less R·tick is at tick s at most what it is at tick x.
 abbrev pub NotAbove : List Bucket → ℕ → ℕ → ℕ → Type 0

@@ -14,14 +14,13 @@ use native.Mathlib.Nat.{le-trans, le-of-eq, le-of-lt, le-suc-iff, min-eq-left, m
 use native.Mathlib.Omega.{arith}
 use lib.ListN.{length}
 use Rattle.meaning.specs.Curve.{Bucket, _∈_, bucketAt, valueAt, reads}
-use Rattle.meaning.specs.Server.{RateLatency, Instant, served, later, slower, join, Excess, Behind, Delay}
+use Rattle.meaning.specs.Server.{RateLatency, Instant, byRate, later, slower, joinRated, Excess, BehindRated, DelayRated}
 use Rattle.meaning.proofs.Order.{le-or-lt, not-above, crosswise}
 use Rattle.meaning.proofs.curve.Value.{same-rate, value-least, value-reached, some, Reached}
 use Rattle.meaning.proofs.curve.Reads.{reads-rise}
 use Rattle.meaning.proofs.curve.Unique.{normal-inside, normal-of-unique}
 use Rattle.meaning.proofs.server.Excess.{gap-unique, NotAbove, falls-from, slow-bucket}
-use Rattle.meaning.proofs.server.Joining.{join-order}
-use Rattle.meaning.proofs.server.Behind.{behind-greatest}
+use Rattle.meaning.proofs.server.Behind.{rated-behind-greatest}
 use Rattle.meaning.proofs.server.Cut.{cutAt, slower-from, cut-filled, by-line, by-slow, cut-line, cut-slow, cut-reached, cutList, cut-list, behind-cut, cut-early, cut-late, flatter-before, steeper-after}
 
 -- n is the greatest of a(u) minus b(u) over the instants up to `end`.
@@ -74,7 +73,7 @@ module _ (f : List Bucket) (rate : ℕ) {k : Bucket} (m : k ∈ f) (slow : k .ra
           ]
 
 -- At no time is the curve above the line of that rate from its burst.
-abbrev Flat : List Bucket → ℕ → Type 0
+abbrev pub Flat : List Bucket → ℕ → Type 0
 Flat a rate = (p q : ℕ) → 0 < q → valueAt a p q ≤ rate * p + reads a 0 * q
 
 -- Such a curve, with its excess for that rate.
@@ -85,7 +84,7 @@ module _ (a : List Bucket) (rate : ℕ) {m : ℕ} (filled : 1 ≤ length a) (e :
   flat-excess = omega (arith, e .reached, e .greatest 0, flat (e .at) 1 (omega arith))
 
   -- and the curve is its own cut
-  cut-flat : (p q : ℕ) → 0 < q → cutAt a rate m p q ≡ valueAt a p q
+  pub cut-flat : (p q : ℕ) → 0 < q → cutAt a rate m p q ≡ valueAt a p q
   cut-flat p q h =
       cut-late a rate m 0 flat-excess filled p q (omega arith) ∙ min-eq-left (omega (arith, flat p q h, ap (λ x. x * q) flat-excess))
 
@@ -96,7 +95,7 @@ below-bucket-flat :
 unfolding bucketAt
 below-bucket-flat a k latency slow start below p q h = omega (arith, below p q h, ap (λ x. x * q) start, mul-le-mul-right p slow)
 
-module _ {f a : List Bucket} {s : RateLatency} (b : Behind f s a) {rate : ℕ} where
+module _ {f a : List Bucket} {s : RateLatency} (b : BehindRated f s a) {rate : ℕ} where
   -- a curve behind a server is flat by a rate if a bucket of no greater rate gives its burst
   by-bucket-flat :
       {k : Bucket} → k ∈ f → k .rate ≤ s .rate → k .rate ≤ rate → reads a 0 ≡ bucketAt k (0 + s .latency * 1) 1 → Flat a rate
@@ -123,7 +122,7 @@ record OneCut (f a : List Bucket) (latency rate next m : ℕ) : Type 0 where
 
 -- the next server is no slower: it leaves the curve as it is
 next-faster :
-    {f a : List Bucket} {s : RateLatency} (b : Behind f s a) {next m : ℕ} → Excess a next m → s .rate ≤ next
+    {f a : List Bucket} {s : RateLatency} (b : BehindRated f s a) {next m : ℕ} → Excess a next m → s .rate ≤ next
     → OneCut f a (s .latency) (s .rate) next m
 next-faster {a = a} b {next} e h =
     record {
@@ -173,7 +172,7 @@ module _
 
 -- a curve with an excess behind a faster server comes from one that has a slow bucket
 behind-slow-bucket :
-    {f a : List Bucket} {s : RateLatency} (b : Behind f s a) {next m : ℕ} → Excess a next m → next < s .rate
+    {f a : List Bucket} {s : RateLatency} (b : BehindRated f s a) {next m : ℕ} → Excess a next m → next < s .rate
     → (k : Bucket) × (k ∈ f) × (k .rate ≤ next)
 unfolding later
 behind-slow-bucket {f} {s = s} b e h =
@@ -185,7 +184,7 @@ behind-slow-bucket {f} {s = s} b e h =
 
 -- The next server is slower, and n is the excess over the first curve for its rate.
 module _
-    {f a : List Bucket} {s : RateLatency} (filled : 1 ≤ length f) (b : Behind f s a) {next n : ℕ} (e : Excess f next n)
+    {f a : List Bucket} {s : RateLatency} (filled : 1 ≤ length f) (b : BehindRated f s a) {next n : ℕ} (e : Excess f next n)
     (slower : next < s .rate) where
   -- The next server's line meets the first curve w ticks past the latency.
   module _ (w : ℕ) (after : w + s .latency ≡ e .at) where
@@ -293,7 +292,7 @@ module _
 
 -- whichever server is the slower, the two cuts are one
 one-cut :
-    {f a : List Bucket} {s : RateLatency} → 1 ≤ length f → (b : Behind f s a) {next m : ℕ} → Excess a next m
+    {f a : List Bucket} {s : RateLatency} → 1 ≤ length f → (b : BehindRated f s a) {next m : ℕ} → Excess a next m
     → OneCut f a (s .latency) (min (s .rate) next) next m
 one-cut {f} {s = s} filled b {next} e =
     elim (le-or-lt (s .rate) next) [
@@ -304,51 +303,39 @@ one-cut {f} {s = s} filled b {next} e =
     ]
 
 -- what stands behind two servers, one after the other, stands behind the joined server
-pub hop-by-hop : {f a g : List Bucket} {s next : RateLatency} → 1 ≤ length f → Behind f s a → Behind a next g → Behind f (join s next) g
-unfolding join
-hop-by-hop {f} {a} {g} {s} {next} filled first second =
+pub rated-hop-by-hop : {f a g : List Bucket} {s next : RateLatency} → 1 ≤ length f → BehindRated f s a → BehindRated a next g → BehindRated f (joinRated s next) g
+unfolding joinRated
+rated-hop-by-hop {f} {a} {g} {s} {next} filled first second =
     record { m = c .n; excess = c .excess; normal = record { form = second .normal .form; same = same } }
   where
     c : OneCut f a (s .latency) (min (s .rate) (next .rate)) (next .rate) (second .m)
     c = one-cut filled first (second .excess)
 
-    same : (p q : ℕ) → 0 < q → valueAt (cutList f (join s next) (c .n)) p q ≡ valueAt g p q
+    same : (p q : ℕ) → 0 < q → valueAt (cutList f (joinRated s next) (c .n)) p q ≡ valueAt g p q
     same p q h =
         let times : p + (s .latency + next .latency) * q ≡ p + next .latency * q + s .latency * q = omega arith in
-        cut-list f (join s next) (c .n) p q ∙ ap (λ x. cutAt f (min (s .rate) (next .rate)) (c .n) x q) times
+        cut-list f (joinRated s next) (c .n) p q ∙ ap (λ x. cutAt f (min (s .rate) (next .rate)) (c .n) x q) times
         ∙ sym (c .same (p + next .latency * q) q h) ∙ sym (behind-cut second p q h)
 
 -- there is one list behind a server
-pub behind-unique : {f g h : List Bucket} {s : RateLatency} → Behind f s g → Behind f s h → g ≡ h
-behind-unique {f} {g} {h} {s} x y = normal-of-unique (x .normal) (rw (gap-unique (y .excess) (x .excess)) at (y .normal))
-
--- one step through the joined server, if answered, is the list of the two hops
-pub one-step-is-hop-by-hop :
-    {f a g h : List Bucket} {s next : RateLatency} → 1 ≤ length f → Behind f s a → Behind a next g → Behind f (join s next) h → g ≡ h
-one-step-is-hop-by-hop filled first second joined = behind-unique (hop-by-hop filled first second) joined
-
--- the order of two servers does not matter
-pub either-order :
-    {f a b g h : List Bucket} {s next : RateLatency}
-    → 1 ≤ length f → Behind f s a → Behind a next g → Behind f next b → Behind b s h → g ≡ h
-either-order {f} {h = h} {s} {next} filled first second other-first other-second =
-    one-step-is-hop-by-hop filled first second (rw (join-order next s) at (hop-by-hop filled other-first other-second))
+pub rated-behind-unique : {f g h : List Bucket} {s : RateLatency} → BehindRated f s g → BehindRated f s h → g ≡ h
+rated-behind-unique {f} {g} {h} {s} x y = normal-of-unique (x .normal) (rw (gap-unique (y .excess) (x .excess)) at (y .normal))
 
 -- at no tick is a curve above what stands behind a server at any tick and what is served from a latency past that tick on
 behind-above :
-    {f a : List Bucket} {s : RateLatency} → 1 ≤ length f → Behind f s a → (v t : Instant)
+    {f a : List Bucket} {s : RateLatency} → 1 ≤ length f → BehindRated f s a → (v t : Instant)
     → reads f t ≤ reads a v + s .rate * (t - (v + s .latency))
-unfolding reads served
+unfolding reads byRate
 behind-above {f} {s = s} filled b v t =
     let past : t - (v + s .latency) ≡ t - v - s .latency = omega arith in
-    rw past (omega (arith, reads-rise f {t = t} {u = v + (t - v)} filled (omega arith), behind-greatest filled b v .greatest (t - v)))
+    rw past (omega (arith, reads-rise f {t = t} {u = v + (t - v)} filled (omega arith), rated-behind-greatest filled b v .greatest (t - v)))
 
 -- the joined server's delay is at most the delays of the two hops together
-pub joined-delay :
+pub rated-joined-delay :
     {f a : List Bucket} {s : RateLatency} (next : RateLatency) {d e n : ℕ}
-    → 1 ≤ length f → Behind f s a → Delay f s d → Delay a next e → Delay f (join s next) n → n ≤ d + e
-unfolding join served
-joined-delay {f} {a} {s} next {d} {e} filled b first second joined =
+    → 1 ≤ length f → BehindRated f s a → DelayRated f s d → DelayRated a next e → DelayRated f (joinRated s next) n → n ≤ d + e
+unfolding joinRated byRate
+rated-joined-delay {f} {a} {s} next {d} {e} filled b first second joined =
     joined .smallest (d + e) (λ t.
     elim (le-or-lt (s .rate) (next .rate)) [
       | inl h ↦ rw (min-eq-left h) (first-slower t _ refl)

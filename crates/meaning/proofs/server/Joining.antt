@@ -10,7 +10,7 @@ use native.Mathlib.Nat.{le-antisymm, le-of-eq, le-of-lt, min-comm, min-eq-left, 
 use native.Mathlib.Omega.{arith}
 use lib.ListN.{length}
 use Rattle.meaning.specs.Curve.{Bucket, _∈_, bucketAt, Falling, reads}
-use Rattle.meaning.specs.Server.{RateLatency, Instant, served, join, Smallest, last, Residual}
+use Rattle.meaning.specs.Server.{RateLatency, Instant, byRate, joinRated, Smallest, last, ResidualRated}
 use Rattle.meaning.specs.Computed.{roundedUp, residual}
 use Rattle.meaning.proofs.Order.{le-or-lt}
 use Rattle.meaning.proofs.curve.Value.{same-rate, value-least}
@@ -20,8 +20,8 @@ pub same-server : {s next : RateLatency} → s .rate ≡ next .rate → s .laten
 same-server p q = λ i. record { rate = p i; latency = q i }
 
 -- what is served by a tick that is y past the latency
-pub served-past : (s : RateLatency) {u : ℕ} (y : ℕ) → u ≡ s .latency + y → served s u ≡ s .rate * y
-unfolding served
+pub served-past : (s : RateLatency) {u : ℕ} (y : ℕ) → u ≡ s .latency + y → byRate s u ≡ s .rate * y
+unfolding byRate
 served-past s {u} y e = let past : u - s .latency ≡ y = omega arith in ap (λ x. s .rate * x) past
 
 -- n is the least of a(y) + b(t-y) over the whole y up to t.
@@ -41,9 +41,9 @@ serves-alone : {m r u v w : ℕ} (r' : ℕ) → m ≡ r → u ≡ v → w ≡ 0 
 serves-alone r' e e' none = rw (e, e', none) (omega arith)
 
 -- the joined server serves by each tick the min-plus convolution of what the two serve
-pub join-convolution : (s next : RateLatency) (t : ℕ) → Convolution (served s) (served next) t (served (join s next) t)
-unfolding served join
-join-convolution s next t =
+pub rated-join-convolution : (s next : RateLatency) (t : ℕ) → Convolution (byRate s) (byRate next) t (byRate (joinRated s next) t)
+unfolding byRate joinRated
+rated-join-convolution s next t =
     elim (le-or-lt (s .rate) (next .rate)) [
       | inl h ↦
           record {
@@ -69,14 +69,14 @@ join-convolution s next t =
         slower-serves-less (y - s .latency) (t - y - next .latency) (min-le-left _ _) (min-le-right _ _) (omega arith)
 
 -- joining in the other order gives the same server
-pub join-order : (s next : RateLatency) → join s next ≡ join next s
-unfolding join
-join-order s next = same-server (min-comm _ _) (add-comm _ _)
+pub rated-join-order : (s next : RateLatency) → joinRated s next ≡ joinRated next s
+unfolding joinRated
+rated-join-order s next = same-server (min-comm _ _) (add-comm _ _)
 
 -- joining three servers gives the same from either end
-pub join-assoc : (s next third : RateLatency) → join (join s next) third ≡ join s (join next third)
-unfolding join
-join-assoc s next third = same-server (omega arith) (omega arith)
+pub rated-join-assoc : (s next third : RateLatency) → joinRated (joinRated s next) third ≡ joinRated s (joinRated next third)
+unfolding joinRated
+rated-join-assoc s next third = same-server (omega arith) (omega arith)
 
 -- the smallest number is one number
 pub smallest-unique : {P : ℕ → Type 0} {m n : ℕ} → Smallest P m → Smallest P n → m ≡ n
@@ -109,14 +109,14 @@ last-slowest (j ∷ i ∷ f) falling m =
     ]
 
 -- the computed server is the one left beside the cross curve
-pub residual-is : (cross : List Bucket) (s : RateLatency) → 1 ≤ s .rate → Residual cross s (residual cross s)
+pub residual-is : (cross : List Bucket) (s : RateLatency) → 1 ≤ s .rate → ResidualRated cross s (residual cross s)
 unfolding residual
 residual-is cross s h =
     record { rate-is = refl; quotient = _; rounded-up = rounded-up-is (last cross .burst) (s .rate) h; latency-is = refl }
 
 -- one server is left beside a cross curve
 pub residual-unique :
-    {cross : List Bucket} {s left other : RateLatency} → Residual cross s left → Residual cross s other → left ≡ other
+    {cross : List Bucket} {s left other : RateLatency} → ResidualRated cross s left → ResidualRated cross s other → left ≡ other
 residual-unique a b =
     same-server (a .rate-is ∙ sym (b .rate-is)) (omega (arith, smallest-unique (a .rounded-up) (b .rounded-up)))
 
@@ -128,9 +128,9 @@ shares {r} rest r' b x u e e' enough = rw (e, e') (omega (arith, rw e at enough)
 
 -- past the latency of the server left: what it has served, and what the cross curve lets come since, are within what the whole one has
 pub residual-law :
-    {cross : List Bucket} {s left : RateLatency} → 1 ≤ length cross → Residual cross s left → last cross .rate < s .rate → (t : ℕ)
-    → left .latency ≤ t → served left t + reads cross (t - left .latency) ≤ s .rate * (t - s .latency)
-unfolding served reads bucketAt
+    {cross : List Bucket} {s left : RateLatency} → 1 ≤ length cross → ResidualRated cross s left → last cross .rate < s .rate → (t : ℕ)
+    → left .latency ≤ t → byRate left t + reads cross (t - left .latency) ≤ s .rate * (t - s .latency)
+unfolding byRate reads bucketAt
 residual-law {cross} {s} {left} some r bounded t past =
     omega (arith, value-least cross (t - left .latency) 1 (last-inside cross some), together)
   where

@@ -5,9 +5,9 @@ use Prim.Native.Nat.{ℕ, _+_, _-_, _*_, _^_, _≤_, _<_}
 use native.Mathlib.Nat.{mul-le-mul, mul-le-mul-left, mul-le-mul-right}
 use native.Mathlib.Omega.{arith}
 use Rattle.meaning.specs.Curve.{Bucket, _∈_, bucketAt, reads}
-use Rattle.meaning.specs.Server.{RateLatency, served, Excess, Backlog, Delay}
+use Rattle.meaning.specs.Server.{RateLatency, rated, byRate, Excess, Backlog, DelayRated}
 use Rattle.meaning.specs.Refusal.{InRange}
-use Rattle.meaning.specs.ServerQuestions.{ServerInRange}
+use Rattle.meaning.specs.ServerQuestions.{RatedInRange}
 use Rattle.meaning.proofs.curve.Value.{value-least}
 use Rattle.meaning.proofs.server.Joining.{served-past}
 
@@ -30,13 +30,13 @@ module _ (f : List Bucket) (s : RateLatency) {k : Bucket} (inside : k ∈ f) (sl
   rises u y h = omega (arith, mul-le-mul-left (k .rate) h, mul-le-mul-right y slow)
 
   -- the backlog is at most the bucket's value at the latency
-  pub backlog-bound : {n : ℕ} → Backlog f s n → n ≤ k .burst + k .rate * s .latency
-  unfolding served reads bucketAt
+  pub backlog-bound : {n : ℕ} → Backlog f (rated s) n → n ≤ k .burst + k .rate * s .latency
+  unfolding byRate reads bucketAt
   backlog-bound b =
       omega (arith, b .reached, value-least f (b .at) 1 inside, rises (b .at) (b .at - s .latency) (omega arith))
 
   -- the delay is at most the latency and a tick for each bit of the burst
-  pub delay-bound : {d : ℕ} → Delay f s d → d ≤ s .latency + k .burst
+  pub delay-bound : {d : ℕ} → DelayRated f s d → d ≤ s .latency + k .burst
   unfolding reads bucketAt
   delay-bound d =
       d .smallest (s .latency + k .burst)
@@ -49,9 +49,9 @@ module _ (f : List Bucket) (s : RateLatency) {k : Bucket} (inside : k ∈ f) (sl
       ))
 
 -- So both fit 64 bits, for a curve and a server in range that are not UNBOUNDED.
-module _ (f : List Bucket) (s : RateLatency) {k : Bucket} (inside : k ∈ f) (ranged : InRange k) (in-range : ServerInRange s) (slow : k .rate ≤ s .rate) where
-  pub backlog-fits : {n : ℕ} → Backlog f s n → n < 2 ^ 41
-  backlog-fits b =
+module _ (f : List Bucket) (s : RateLatency) {k : Bucket} (inside : k ∈ f) (ranged : InRange k) (in-range : RatedInRange s) (slow : k .rate ≤ s .rate) where
+  pub rated-backlog-fits : {n : ℕ} → Backlog f (rated s) n → n < 2 ^ 41
+  rated-backlog-fits b =
       omega (
         arith,
         backlog-bound f s inside slow (in-range .rate-some) b,
@@ -59,6 +59,6 @@ module _ (f : List Bucket) (s : RateLatency) {k : Bucket} (inside : k ∈ f) (ra
         mul-le-mul {n₁ = k .rate} {m₁ = s .latency} {n₂ = 2 ^ 20} {m₂ = 2 ^ 20} (omega (arith, ranged .rate-fits)) (omega (arith, in-range .latency-fits)),
       )
 
-  pub delay-fits : {d : ℕ} → Delay f s d → d < 2 ^ 41
-  delay-fits d =
+  pub rated-delay-fits : {d : ℕ} → DelayRated f s d → d < 2 ^ 41
+  rated-delay-fits d =
       omega (arith, delay-bound f s inside slow (in-range .rate-some) d, ranged .burst-fits, in-range .latency-fits)

@@ -1,4 +1,4 @@
--- `write_curve` meets its contract: the curve is refused, or packed and handed over.
+-- `write_curve` meets its contract: the edition or the curve is refused, or it is packed and handed over.
 -- Assumes nothing.
 use lib.ListN.{length-take}
 use native.Mathlib.Omega.{arith}
@@ -13,9 +13,11 @@ write-curve-spec =
     (tie.spec
     (λ c κs. search needs)
     (λ c. search (curve-writes, needs))
+    (λ c κs. search needs)
+    (λ c. search (curve-writes, needs))
     (λ c. search needs)
     (λ c κs. search (curve-writes, needs))
-    (λ c. search (curve-writes, needs))
+    (λ c. search needs)
     (λ c. simp length-take (omega arith))
     (λ c κs. search needs)
     (λ c. search needs)

@@ -1,4 +1,4 @@
--- `write_server` meets its contract: the server is refused, or packed and handed over.
+-- `write_server` meets its contract: the edition or the server is refused, or it is packed and handed over.
 -- Assumes nothing.
 use lib.ListN.{length-take}
 use native.Mathlib.Omega.{arith}
@@ -11,6 +11,9 @@ pub write-server-spec : {M : Type 1} → statement M
 write-server-spec =
     tie.close
     (tie.spec
+    (λ c κs. search needs)
+    (λ c κs. search needs)
+    (λ c. search (server-writes, needs))
     (λ c κs. search needs)
     (λ c. search (server-writes, needs))
     (λ c. search needs)

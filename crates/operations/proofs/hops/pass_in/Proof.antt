@@ -1,6 +1,5 @@
--- An operand is refused, or the answer is; or the curve behind is handed over, with the figures. Assumes nothing.
-use Rattle.operations.proofs.Passing.{hopping}
-use Rattle.operations.proofs.Sharing.{opened}
+-- What comes of the kind's numbers comes of the server. Assumes nothing.
+use Rattle.operations.proofs.Choosing.{choosing}
 use borrow.Author.Needs.{needs}
 use Rattle.operations.proofs.hops.pass_in.Statement.{statement}
 use Rattle.operations.proofs.hops.pass_in.Tie as tie
@@ -9,14 +8,11 @@ pub pass-in-spec : {M : Type 1} → statement M
 pass-in-spec =
     tie.close
     (tie.spec
-    (λ c κs. search needs)
-    (λ c κs. search needs)
-    (λ c. search (opened, hopping, needs))
-    (λ c κs. search (opened, hopping, needs))
+    (λ c. search needs)
     (λ c κs. search needs)
     (λ c. search needs)
-    (λ c. search (opened, hopping, needs))
-    (λ c κs. search (opened, hopping, needs))
-    (λ c κs. search (opened, hopping, needs))
+    (λ c κs. search needs)
     (λ c. search needs)
-    (λ c. search (opened, hopping, needs)))
+    (λ c. search (choosing, needs))
+    (λ c. search needs)
+    (λ c. search (choosing, needs)))

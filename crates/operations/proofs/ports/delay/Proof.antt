@@ -1,9 +1,16 @@
--- An operand is refused, or the delay is answered. Assumes nothing.
-use Rattle.operations.proofs.Sharing.{port-figures}
+-- What comes of the kind's numbers comes of the server. Assumes nothing.
+use Rattle.operations.proofs.Choosing.{choosing}
 use borrow.Author.Needs.{needs}
 use Rattle.operations.proofs.ports.delay.Statement.{statement}
 use Rattle.operations.proofs.ports.delay.Tie as tie
 
 pub delay-spec : {M : Type 1} → statement M
 delay-spec =
-    tie.close (tie.spec (λ c κs. search needs) (λ c. search (port-figures, needs)) (λ c κs. search (port-figures, needs)) (λ c. search (port-figures, needs)))
+    tie.close
+    (tie.spec
+    (λ c. search needs)
+    (λ c κs. search needs)
+    (λ c. search needs)
+    (λ c κs. search needs)
+    (λ c. search (choosing, needs))
+    (λ c. search (choosing, needs)))

@@ -1,5 +1,5 @@
--- A refusal of the server or of the cross curve, a latency that is too large, or the server left. Assumes nothing.
-use Rattle.operations.proofs.Leaving.{residual-ready, residuals}
+-- What comes of the kind's numbers comes of the server. Assumes nothing.
+use Rattle.operations.proofs.Choosing.{choosing}
 use borrow.Author.Needs.{needs}
 use Rattle.operations.proofs.ports.residual.Statement.{statement}
 use Rattle.operations.proofs.ports.residual.Tie as tie
@@ -8,13 +8,9 @@ pub residual-spec : {M : Type 1} → statement M
 residual-spec =
     tie.close
     (tie.spec
+    (λ c. search needs)
     (λ c κs. search needs)
+    (λ c. search needs)
     (λ c κs. search needs)
-    (λ c. search (residuals, needs))
-    (λ c κs. search needs)
-    (λ c κs. residual-ready _ (c .before .before .cross .ensures) (c .before .if1 .left) (c .last-bucket .ensures))
-    (λ c. search (residuals, needs))
-    (λ c κs. search needs)
-    (λ c. search (residuals, needs))
-    (λ c. search (residuals, needs))
-    (λ c. search (residuals, needs)))
+    (λ c. search (choosing, needs))
+    (λ c. search (choosing, needs)))

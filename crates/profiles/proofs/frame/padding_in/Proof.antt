@@ -1,4 +1,4 @@
--- `padding_in` reads the bits behind a curve as one more field; a server has none.
+-- `padding_in` reads the bits behind the profile's as one more field.
 -- Assumes nothing.
 use Rattle.profiles.proofs.Framing.{pads}
 use borrow.Author.Needs.{needs}
@@ -10,10 +10,6 @@ padding-in-spec =
     tie.close
     (tie.spec
     (λ c κs. search needs)
-    (λ c. search (pads, needs))
-    (λ c κs. search needs)
-    (λ c. search (pads, needs))
-    (λ c. search (pads, needs))
     (λ c. search (pads, needs))
     (λ c. search (pads, needs))
     (λ c κs. search (pads, needs))

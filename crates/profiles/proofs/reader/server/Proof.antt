@@ -1,4 +1,4 @@
--- `server` meets its contract: the two numbers are read and tested; every list that is lent stays.
+-- `server` meets its contract: the server is read and tested; every list that is lent stays.
 -- Assumes nothing.
 use Rattle.profiles.proofs.Readings.{server-files}
 use borrow.Author.Needs.{needs}
@@ -9,9 +9,10 @@ pub server-spec : {M : Type 1} → statement M
 server-spec =
     tie.close
     (tie.spec
-    (λ c κs. search (server-files, needs))
-    (λ c κs. search (server-files, needs))
+    (λ c κs. search needs)
     (λ c κs. search needs)
     (λ c κs. search needs)
     (λ c. search (server-files, needs))
+    (λ c κs. search needs)
+    (λ c κs. search needs)
     (λ c. search (server-files, needs)))

@@ -21,6 +21,7 @@ walk-spec =
     (tie.spec
     Inv-loop
     μ-loop
+    (λ c κs. search needs)
     (λ c. search (walking, needs))
     (λ c κs. search (walking, needs))
     (λ c. search (walking, needs))

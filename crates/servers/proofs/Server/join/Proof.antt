@@ -1,5 +1,4 @@
--- `Server::join` meets its contract: a refusal of either server, a latency that is too large, or the joined server.
--- Assumes nothing.
+-- A refusal of either server, a latency that is too large, or the joined server. Assumes nothing.
 use Rattle.servers.proofs.Joins.{joins}
 use borrow.Author.Needs.{needs}
 use Rattle.servers.proofs.Server.join.Statement.{statement}
@@ -14,8 +13,8 @@ join-spec =
     (λ c κs. search needs)
     (λ c κs. search needs)
     (λ c. search (joins, needs))
-    (λ c. search (joins, needs))
+    (λ c κs. search (joins, needs))
+    (λ c κs. search needs)
     (λ c κs. search needs)
     (λ c. search (joins, needs))
-    (λ c κs. search needs)
     (λ c. search (joins, needs)))

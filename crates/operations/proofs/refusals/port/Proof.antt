@@ -1,9 +1,0 @@
--- The refusals of the curve and of the server come first, then UNBOUNDED. Assumes nothing.
-use Rattle.operations.proofs.Refusing.{port-tests}
-use borrow.Author.Needs.{needs}
-use Rattle.operations.proofs.refusals.port.Statement.{statement}
-use Rattle.operations.proofs.refusals.port.Tie as tie
-
-pub port-spec : {M : Type 1} → statement M
-port-spec =
-    tie.close (tie.spec (λ c κs. search needs) (λ c. search (port-tests, needs)) (λ c κs. search needs) (λ c. search (port-tests, needs)) (λ c. search (port-tests, needs)))
