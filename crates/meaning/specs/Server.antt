@@ -153,7 +153,8 @@ pub record HeldFor (f : List Bucket) (latency d : ℕ) : Type 0 where
   pub nothing : ((t : Instant) → reads f t ≡ 0) → d ≡ 0
 
 -- delay. Of a pure delay, and of no other, it is the horizontal distance between curve and service, an infimum: every larger number
--- suffices, and it may itself be a tick short. (How it stands to what is served say the laws `held-suffices` and `held-needed`.)
+-- suffices, and it may itself be a tick short. (How it stands to what is served say the laws `held-suffices` and `held-needed`, and
+-- over fractions `held-infimum`.)
 pub data Delay (f : List Bucket) : Server → ℕ → Type 0 where
   of-rate : {s : RateLatency} {d : ℕ} → DelayRated f s d → Delay f (rated s) d
   of-delay : {latency d : ℕ} → HeldFor f latency d → Delay f (pureDelay latency) d

@@ -15,7 +15,7 @@ use Rattle.meaning.specs.Figures.{C}
 use Rattle.meaning.proofs.Order.{le-or-lt}
 use Rattle.meaning.proofs.Figures.{table}
 use Rattle.meaning.proofs.curve.Reads.{reads-rise}
-use Rattle.meaning.proofs.server.PureDelay.{delay-late, delay-past}
+use Rattle.meaning.proofs.server.PureDelay.{delay-late, delay-past, PastBy, Infimum, held-infimum}
 use Rattle.meaning.proofs.server.BothKinds.{delay-held, delay-rate}
 use Rattle.meaning.proofs.outcome.Outcomes.{clear-or, line-hit, refused-then, refusal}
 use Rattle.meaning.proofs.outcome.Answers.{OnlyAnswer, figure-answered}
@@ -93,7 +93,12 @@ module _ (f : List ℕ) (latency : ℕ) where
   unfolding DelayOutcome
   delay-is-latency t some o = delay-held (figure-answered o .1) .something t some
 
-  -- and the backlog what has come by it
+  -- and for any curve the infimum of what suffices at every fraction of a tick;
+  pub delay-is-infimum : {d : ℕ} → DelayOutcome f (pureDelay latency) 0 d → Infimum (PastBy (curveOf f) latency) d
+  unfolding DelayOutcome
+  delay-is-infimum o = held-infimum (delay-held (figure-answered o .1))
+
+  -- the backlog is what has come by the latency
   pub backlog-is-value : {n : ℕ} → BacklogOutcome f (pureDelay latency) 0 n → n ≡ reads (curveOf f) latency
   unfolding BacklogOutcome
   backlog-is-value o =

@@ -259,7 +259,7 @@ module _ (f : List ℕ) (s : Server) where
   answered-delay o =
       let known = figure-answered o in
       record {
-        larger-suffices = larger-suffices (port-form f s (known .0) .some) (known .1);
+        larger-suffices = larger-suffices (known .1);
         no-smaller = smaller-fails (known .1);
       }
 

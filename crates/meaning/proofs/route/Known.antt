@@ -10,7 +10,7 @@ use native.Mathlib.Omega.{arith}
 use lib.Dec.{lit≤}
 use lib.ListN.{length, take, drop, length-append}
 use Rattle.meaning.specs.Curve.{Bucket, buckets, reads, valueAt}
-use Rattle.meaning.specs.Server.{RateLatency, Server, rated, joinRated, join, last, Behind, Backlog, Delay, port}
+use Rattle.meaning.specs.Server.{RateLatency, Server, rated, pureDelay, joinRated, join, last, Behind, Backlog, Delay, port}
 use Rattle.meaning.specs.Refusal.{Clear}
 use Rattle.meaning.specs.ServerQuestions.{RatedInRange, ServerInRange}
 use Rattle.meaning.specs.Profile.{curveKind, curve, server, kindOf, Known, written, kindIn}
@@ -37,6 +37,12 @@ p12-input = written 1 (curve C) ++ written 1 (server (port 6 4)) ++ written 1 (s
 -- and its only text
 pub p12-outcome : OnlyText p12-input (bytes "hop 1 32 6\nhop 2 38 9\nroute 38 9\n")
 p12-outcome = only-text (table .p12 .0)
+
+-- C in edition 2, the server (6,1) in edition 1 and a pure delay of 3: the only text of a route that mixes them
+pub mixed-outcome :
+    OnlyText (written 2 (curve C) ++ written 1 (server (port 6 1)) ++ written 2 (server (pureDelay 3)))
+    (bytes "hop 1 17 3\nhop 2 32 3\nroute 32 6\n")
+mixed-outcome = only-text (table .mixed)
 
 -- ---- The first server.
 

@@ -1,6 +1,6 @@
 -- The laws of servers for both kinds: each is the law of rate-latency servers, or that of pure delays, or comes of the two together.
 -- Where a pure delay stands beside another server it is taken for a rate-latency server that is fast enough: then hop by hop is one
--- step in all four combinations. The delays are added up by hand.
+-- step in all four combinations. Only the delays are added up by themselves.
 -- Assumes nothing.
 use mathlib.Core.Path.{_≡_, refl, sym, _∙_, ap}
 use mathlib.Core.Logic.{inl, inr}
@@ -154,11 +154,11 @@ delay-rises f g below (Delay.of-delay d) (Delay.of-delay e) =
     ]
 
 -- Every number above the delay suffices, at every whole tick,
-pub larger-suffices : {f : List Bucket} {s : Server} {d : ℕ} → 1 ≤ length f → Delay f s d → (m : ℕ) → d < m → Suffices f s m
+pub larger-suffices : {f : List Bucket} {s : Server} {d : ℕ} → Delay f s d → (m : ℕ) → d < m → Suffices f s m
 unfolding byRate
-larger-suffices has (Delay.of-rate {s = s} x) m more t =
+larger-suffices (Delay.of-rate {s = s} x) m more t =
     le-trans (x .suffices t) (mul-le-mul-left (s .rate) (omega arith))
-larger-suffices has (Delay.of-delay x) m more t = held-suffices x m more t
+larger-suffices (Delay.of-delay x) m more t = held-suffices x m more t
 
 -- and, for a curve that carries anything, none below it
 pub smaller-fails :

@@ -16,20 +16,20 @@ use Rattle.meaning.proofs.curve.Value.{value-least, value-reached}
 use Rattle.meaning.proofs.server.Joining.{served-past, rounded-up-is}
 use Rattle.meaning.proofs.server.Excess.{excess-is}
 
--- a curve that carries nothing by some time after 0 carries nothing by any tick: by the time 1/q,
-pub carries-nothing-yet : (f : List Bucket) (q : ℕ) → 0 < q → valueAt f 1 q ≡ 0 → (t : ℕ) → reads f t ≡ 0
-unfolding reads bucketAt valueAt
-carries-nothing-yet [] q h none t = refl
-carries-nothing-yet (k ∷ f) q h none t =
-    let r = value-reached (k ∷ f) 1 q (omega arith) in
-    let idle : r .bucket .rate ≡ 0 = omega (arith, r .value-is) in
-    let empty : r .bucket .burst ≤ 0 = omega (arith, r .value-is, mul-le-mul-left (r .bucket .burst) h) in
-    omega (arith, value-least (k ∷ f) t 1 (r .inside), ap (λ x. x * t) idle)
+-- a curve that carries nothing by some time 1/q carries nothing by any time p/r,
+pub carries-nothing-ever : (f : List Bucket) (q : ℕ) → 0 < q → valueAt f 1 q ≡ 0 → (p r : ℕ) → valueAt f p r ≡ 0
+unfolding bucketAt valueAt
+carries-nothing-ever [] q h none p r = refl
+carries-nothing-ever (k ∷ f) q h none p r =
+    let l = value-reached (k ∷ f) 1 q (omega arith) in
+    let idle : l .bucket .rate ≡ 0 = omega (arith, l .value-is) in
+    let empty : l .bucket .burst ≡ 0 = omega (arith, l .value-is, mul-le-mul-left (l .bucket .burst) h) in
+    omega (arith, value-least (k ∷ f) p r (l .inside), ap (λ x. x * p) idle, ap (λ x. x * r) empty)
 
--- by tick 1
+-- so, by tick 1, by any tick
 pub carries-nothing : (f : List Bucket) → reads f 1 ≡ 0 → (t : ℕ) → reads f t ≡ 0
 unfolding reads
-carries-nothing f none t = carries-nothing-yet f 1 (omega arith) none t
+carries-nothing f none t = carries-nothing-ever f 1 (omega arith) none t 1
 
 -- so it has no delay
 pub rated-delay-of-nothing : (f : List Bucket) (s : RateLatency) → reads f 1 ≡ 0 → DelayRated f s 0

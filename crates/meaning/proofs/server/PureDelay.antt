@@ -1,13 +1,13 @@
 -- A pure delay. Behind it a curve is read T ticks later, and that is what stands behind a rate-latency server of the same latency
 -- whose rate is not below any of the curve's: so what is known of those servers is known of pure delays. The delay is not that of a
 -- fast server, which takes a tick for a burst however fast it is: it is T, where anything comes. Every larger number suffices, and no
--- smaller one does.
+-- smaller one does; over all fractions of a tick, that says which number it is.
 -- Assumes nothing.
 use mathlib.Core.Path.{_≡_, refl, sym, _∙_, ap, ap₂}
 use mathlib.Core.Logic.{inl, inr, _≢_}
 use mathlib.Core.List.{List, [], _∷_, map, List·Memᴰ·head, List·Memᴰ·tail}
 use Prim.Native.Nat.{ℕ, _+_, _*_, _≤_, _<_, min, max}
-use native.Mathlib.Nat.{le-refl, mul-one, mul-le-mul-right}
+use native.Mathlib.Nat.{le-refl, mul-one, mul-assoc, mul-le-mul-right}
 use native.Mathlib.Decide.{ℕ-discrete}
 use native.Mathlib.Omega.{arith}
 use lib.ListN.{length}
@@ -21,7 +21,7 @@ use Rattle.meaning.proofs.curve.Reads.{reads-rise}
 use Rattle.meaning.proofs.server.Excess.{gap-unique}
 use Rattle.meaning.proofs.server.Cut.{later-at, cutList, cut-list}
 use Rattle.meaning.proofs.server.HopByHop.{Flat, cut-flat}
-use Rattle.meaning.proofs.server.Delay.{carries-nothing-yet, carries-nothing}
+use Rattle.meaning.proofs.server.Delay.{carries-nothing-ever, carries-nothing}
 
 -- ---- What it serves.
 
@@ -137,10 +137,14 @@ module _ (f : List Bucket) (rate : ℕ) (some : 1 ≤ length f) (slow : NoFaster
 
 -- ---- Its delay.
 
--- a curve that carries anything by any tick does so by tick 1
-pub carries-by-one : (f : List Bucket) (t : ℕ) → 0 < reads f t → 0 < reads f 1
-carries-by-one f t h =
-    elim (le-or-lt 1 (reads f 1)) [ inl some ↦ some | inr none ↦ absurd (omega (arith, carries-nothing f (omega arith) t)) ]
+-- a curve that carries anything by any time p/r does so by tick 1
+pub carries-by-one : (f : List Bucket) (p r : ℕ) → 0 < valueAt f p r → 0 < reads f 1
+unfolding reads
+carries-by-one f p r h =
+    elim (le-or-lt 1 (reads f 1)) [
+      | inl some ↦ some
+      | inr none ↦ absurd (omega (arith, carries-nothing-ever f 1 (omega arith) (omega (arith, none)) p r))
+    ]
 
 -- the computed number is the delay
 pub held-is : (f : List Bucket) (latency : ℕ) → HeldFor f latency (delay f (pureDelay latency))
@@ -155,15 +159,7 @@ held-is f latency =
     ]
 
 module _ {f : List Bucket} {latency d : ℕ} (x : HeldFor f latency d) where
-  -- it is one number,
-  pub held-unique : {e : ℕ} → HeldFor f latency e → d ≡ e
-  held-unique y =
-      elim (ℕ-discrete (reads f 1) 0) [
-        | yes none ↦ x .nothing (carries-nothing f none) ∙ sym (y .nothing (carries-nothing f none))
-        | no some ↦ x .something 1 (omega (arith, some)) ∙ sym (y .something 1 (omega (arith, some)))
-      ]
-
-  -- never above T
+  -- it is never above T
   pub held-most : d ≤ latency
   held-most =
       elim (ℕ-discrete (reads f 1) 0) [
@@ -181,9 +177,10 @@ module _ {f : List Bucket} {latency d : ℕ} (x : HeldFor f latency d) where
 
   -- and, for a curve that carries anything, no smaller one does: what has come by tick 1 is not served by then
   pub held-needed : (u : ℕ) → 0 < reads f u → (m : ℕ) → m < d → Suffices f (pureDelay latency) m → ⊥
+  unfolding reads
   held-needed u some m less enough =
       let served-not = delay-late latency {t = 1 + m} (omega (arith, x .something u some)) in
-      omega (arith, carries-by-one f u some, rw served-not at (enough 1))
+      omega (arith, carries-by-one f u 1 some, rw served-not at (enough 1))
 
   -- It may itself be a tick short: where anything comes at once it does not suffice.
   pub held-short : 0 < reads f 0 → Suffices f (pureDelay latency) d → ⊥
@@ -191,11 +188,48 @@ module _ {f : List Bucket} {latency d : ℕ} (x : HeldFor f latency d) where
       let served-not = delay-late latency {t = 0 + d} (omega (arith, x .something 0 some)) in
       omega (arith, rw served-not at (enough 0))
 
-  -- It is the infimum over all fractions: for a fraction y/q below it, by the time 1/q something has come, and 1/q and y/q together are
-  -- not past T.
-  pub held-infimum : (u : ℕ) → 0 < reads f u → (y q : ℕ) → 0 < q → y < d * q → (0 < valueAt f 1 q) × (1 + y ≤ latency * q)
-  held-infimum u some y q h less =
-      (omega (arith, comes), omega (arith, ap (λ n. n * q) (x .something u some)))
-    where
-      comes : valueAt f 1 q ≢ 0
-      comes none = omega (arith, carries-nothing-yet f q h none u)
+-- ---- Over all fractions of a tick, the delay is an infimum.
+
+-- y/q ticks suffice at every fraction: where anything has come by a time p/r, p/r and y/q together are past T, and all is served.
+abbrev pub PastBy : List Bucket → ℕ → ℕ → ℕ → Type 0
+PastBy f latency y q = (p r : ℕ) → 0 < r → 0 < valueAt f p r → latency * (q * r) < p * q + y * r
+
+-- d is the infimum of the fractions of which P holds: of all above it P holds, and of none below it.
+pub record Infimum (P : ℕ → ℕ → Type 0) (d : ℕ) : Type 0 where
+  pub above : (y q : ℕ) → 0 < q → d * q < y → P y q
+  pub none-below : (y q : ℕ) → 0 < q → y < d * q → P y q → ⊥
+
+-- one whole number is: a half more than the smaller of two would have to suffice, and not to
+pub infimum-unique : {P : ℕ → ℕ → Type 0} {d e : ℕ} → Infimum P d → Infimum P e → d ≡ e
+infimum-unique {P} x y = omega (arith, not-less x y, not-less y x)
+  where
+    not-less : {d e : ℕ} → Infimum P d → Infimum P e → e ≤ d
+    not-less {d} {e} x y =
+        elim (le-or-lt e d) [
+          | inl h ↦ h
+          | inr h ↦ absurd (y .none-below (1 + d * 2) 2 (omega arith) (omega arith) (x .above (1 + d * 2) 2 (omega arith) (omega arith)))
+        ]
+
+-- the delay of a pure delay is it: a larger fraction is past T by itself, and with a smaller one y/q what has come by 1/q is not past T
+pub held-infimum : {f : List Bucket} {latency d : ℕ} → HeldFor f latency d → Infimum (PastBy f latency) d
+unfolding reads
+held-infimum {f} {latency} {d} x =
+    record {
+      above = λ y q h more p r h′ comes.
+          let is = x .something 1 (carries-by-one f p r comes) in
+          let wide : (1 + latency * q) * r ≤ y * r = mul-le-mul-right r (omega (arith, ap (λ n. n * q) is)) in
+          omega (arith, wide, mul-assoc latency q r);
+      none-below = λ y q h less past.
+          let some : 0 < valueAt f 1 q = omega (arith, comes-soon y q h less) in
+          let is = x .something 1 (carries-by-one f 1 q some) in
+          let late : (1 + y) * q ≤ latency * q * q = mul-le-mul-right q (omega (arith, less, ap (λ n. n * q) is)) in
+          omega (arith, late, mul-assoc latency q q, past 1 q h some);
+    }
+  where
+    comes-soon : (y q : ℕ) → 0 < q → y < d * q → valueAt f 1 q ≢ 0
+    comes-soon y q h less none =
+        omega (arith, less, ap (λ n. n * q) (x .nothing (λ t. carries-nothing-ever f q h none t 1)))
+
+-- so it is one number
+pub held-unique : {f : List Bucket} {latency d e : ℕ} → HeldFor f latency d → HeldFor f latency e → d ≡ e
+held-unique x y = infimum-unique (held-infimum x) (held-infimum y)
