@@ -51,7 +51,7 @@ module _ {rates bursts : ℕ} {l : List ℕ} {i : ℕ} (w : Ranged rates bursts 
   -- none is left
   pub ranged_end : length l ≤ i + 1 → Tells (AllWithin rates bursts (buckets l)) true
   ranged_end h =
-      tells_yes (w.back (rw (buckets_end l i h) (λ k m. absurd (Memᴰ.not_nil m))))
+      tells_yes (w.back (rw (buckets_end l i h) (λ k m. absurd (Memᴰ.not-nil m))))
 
   module _ (more : i + 1 < length l) where
     -- the bucket at the index

@@ -99,6 +99,7 @@ at_inside (j ∷ f) (suc i) k h = Memᴰ.tail (at_inside f i k (omega arith))
 
 -- and each bucket of a list stands at a position
 pub inside_at : (f : List Bucket) {j : Bucket} (k : Bucket) → j ∈ f → (i : ℕ) × (i < length f) × (j ≡ get_or f i k)
+inside_at [] {j = j} k m = elim m [ ]
 inside_at (j ∷ f) k m =
     elim (Memᴰ.cases_cons m) [
       | inl e ↦ (0, omega arith, e)

@@ -34,7 +34,7 @@ record Position (f : List Bucket) (k : Bucket) : Type 0 where
   inside : i < length f
   there : k ≡ bucket f i
 
-position : {f : List Bucket} {k : Bucket} → k ∈ f → Position f k
+position : {k : Bucket} {f : List Bucket} → k ∈ f → Position f k
 position (Memᴰ.head e) = record { i = 0; inside = omega arith; there = e }
 position (Memᴰ.tail m) =
     let t = position m in

@@ -58,8 +58,8 @@ in_order_short : (l : List ℕ) → length l ≤ 3 → InOrder (buckets l)
 unfolding InOrder buckets
 in_order_short [] h = tt
 in_order_short (r ∷ []) h = tt
-in_order_short (r ∷ b ∷ []) h = (λ j m. absurd (Memᴰ.not_nil m), tt)
-in_order_short (r ∷ b ∷ x ∷ []) h = (λ j m. absurd (Memᴰ.not_nil m), tt)
+in_order_short (r ∷ b ∷ []) h = (λ j m. absurd (Memᴰ.not-nil m), tt)
+in_order_short (r ∷ b ∷ x ∷ []) h = (λ j m. absurd (Memᴰ.not-nil m), tt)
 in_order_short (r ∷ b ∷ x ∷ y ∷ l) h = absurd (omega arith)
 
 -- The buckets from index i on decide.
@@ -188,7 +188,7 @@ unfolding buckets
 ready_start t =
     record {
       in_order = t.yes_means;
-      passed = record { inside = omega arith; even = refl; steeper = λ k m. absurd (Memᴰ.not_nil m) };
+      passed = record { inside = omega arith; even = refl; steeper = λ k m. absurd (Memᴰ.not-nil m) };
     }
 
 module _ {bound : ℕ} {l : List ℕ} {i : ℕ} {ordered : Bool} (w : Ready bound l i ordered) where

@@ -51,7 +51,7 @@ pub parted_start : {raw : List Bucket} → AllWide raw → Parted raw (2 ^ 20) [
 parted_start {raw} wide =
     record {
       whole = refl;
-      steeper = λ k m. absurd (Memᴰ.not_nil m);
+      steeper = λ k m. absurd (Memᴰ.not-nil m);
       flatter = λ k m. (wide k ((normal_chosen raw).from k m)).rate_fits;
     }
 
@@ -70,7 +70,7 @@ module _ {raw : List Bucket} {bound : ℕ} {front : List Bucket} {c : Bucket} (f
   -- of what is left the first one below the bound comes first
   taken_first : (rest : List Bucket) → Parted raw bound front rest → c ∈ rest → Taken raw front c
   unfolding Falling
-  taken_first [] p m = absurd (Memᴰ.not_nil m)
+  taken_first [] p m = absurd (Memᴰ.not-nil m)
   taken_first (k ∷ g) p m = split (Memᴰ.cases_cons m)
     where
       fall : Falling (k ∷ g)

@@ -144,7 +144,7 @@ sought_start =
     record {
       inside = omega arith;
       even = refl;
-      best_is = record { first = λ t. absurd (true≢false (sym t)); none = λ t k m. absurd (Memᴰ.not_nil m) };
+      best_is = record { first = λ t. absurd (true≢false (sym t)); none = λ t k m. absurd (Memᴰ.not-nil m) };
     }
 
 module _ {bound : ℕ} {l : List ℕ} {best : Found} {i : ℕ} (w : Sought bound l best i) where

@@ -25,8 +25,8 @@ pub same_buckets_value :
     (f g : List Bucket) → ((k : Bucket) → k ∈ f → k ∈ g) → ((k : Bucket) → k ∈ g → k ∈ f)
     → (p q : ℕ) → value_at f p q ≡ value_at g p q
 same_buckets_value [] [] to back p q = refl
-same_buckets_value [] (k ∷ g) to back p q = absurd (Memᴰ.not_nil (back k (Memᴰ.head refl)))
-same_buckets_value (k ∷ f) [] to back p q = absurd (Memᴰ.not_nil (to k (Memᴰ.head refl)))
+same_buckets_value [] (k ∷ g) to back p q = absurd (Memᴰ.not-nil (back k (Memᴰ.head refl)))
+same_buckets_value (k ∷ f) [] to back p q = absurd (Memᴰ.not-nil (to k (Memᴰ.head refl)))
 same_buckets_value (k ∷ f) (j ∷ g) to back p q =
     le_antisymm (more_not_above (j ∷ g) (k ∷ f) p q back (omega arith)) (more_not_above (k ∷ f) (j ∷ g) p q to (omega arith))
 
@@ -58,9 +58,9 @@ unfolding added
 added_order k j = same_bucket (omega arith) (omega arith)
 
 -- a bucket of each list gives one of the pairs
-pub pairs_has : {f g : List Bucket} {k j : Bucket} → k ∈ f → j ∈ g → added k j ∈ pairs f g
+pub pairs_has : {k j : Bucket} {f g : List Bucket} → k ∈ f → j ∈ g → added k j ∈ pairs f g
 unfolding pairs
-pairs_has {g = g} {j = j} (Memᴰ.head {x = i} {xs = f} e) n =
+pairs_has {j = j} {g = g} (Memᴰ.head {x = i} {xs = f} e) n =
     Memᴰ.append_left (pairs f g) (Memᴰ.cast (ap (λ (x : Bucket). added x j) e) (Memᴰ.map (added i) n))
 pairs_has {g = g} (Memᴰ.tail {x = i} m) n = Memᴰ.append_right (map (added i) g) (pairs_has m n)
 
@@ -75,7 +75,7 @@ pub record PairOf (f g : List Bucket) (k : Bucket) : Type 0 where
 -- each of the pairs is made of a bucket of each list
 pub pairs_from : (f g : List Bucket) {k : Bucket} → k ∈ pairs f g → PairOf f g k
 unfolding pairs
-pairs_from [] g m = absurd (Memᴰ.not_nil m)
+pairs_from [] g m = absurd (Memᴰ.not-nil m)
 pairs_from (i ∷ f) g m =
     elim (Memᴰ.append_cases (map (added i) g) m) [
       | inl n ↦

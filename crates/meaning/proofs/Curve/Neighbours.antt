@@ -174,7 +174,7 @@ rising_later {j = j} s hy i w =
 rising_useful :
     (f : List Bucket) (k : Bucket) (x y : ℕ) → 0 < y → crossings_rise k x y f ≡ true → (i : Bucket) → i ∈ (k ∷ f)
     → UsefulAfter x y (k ∷ f) i
-rising_useful [] k x y hy h = cons_each (rising_first [] k x y hy h) (λ l n. absurd (Memᴰ.not_nil n))
+rising_useful [] k x y hy h = cons_each (rising_first [] k x y hy h) (λ l n. absurd (Memᴰ.not-nil n))
 rising_useful (j ∷ f) k x y hy h =
     let s = step_of k x y j f h in
     cons_each (rising_first (j ∷ f) k x y hy h)

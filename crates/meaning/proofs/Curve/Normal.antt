@@ -105,7 +105,7 @@ inserted :
 unfolding insert Falling
 inserted k [] fall one =
     record {
-      falling = (λ i m. absurd (Memᴰ.not_nil m), fall);
+      falling = (λ i m. absurd (Memᴰ.not-nil m), fall);
       has = Memᴰ.head refl;
       keeps = λ i m. Memᴰ.tail m;
       from = λ i m. Memᴰ.cases_cons m;
@@ -149,7 +149,7 @@ pub chosen_among :
     (raw among : List Bucket) → ((j : Bucket) → j ∈ among → j ∈ raw) → ChosenAmong raw among (chosen raw among)
 unfolding chosen Falling
 chosen_among raw [] within =
-    record { falling = tt; from = λ i m. m; useful = λ i m. absurd (Memᴰ.not_nil m); all = λ i m u. m }
+    record { falling = tt; from = λ i m. m; useful = λ i m. absurd (Memᴰ.not-nil m); all = λ i m u. m }
 chosen_among raw (k ∷ among) within =
     let c = chosen_among raw among (λ j m. within j (Memᴰ.tail m)) in
     cond_holds (ChosenAmong raw (k ∷ among)) (is_useful raw k) (λ t. chosen_more k c within (useful_sound raw k t))

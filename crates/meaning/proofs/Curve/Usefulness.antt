@@ -237,7 +237,7 @@ pub record Left (c : Bucket) (e : Ends) (f : List Bucket) : Type 0 where
 -- where the search stays open, a time is left
 pub stays_left : (c : Bucket) (e : Ends) (f : List Bucket) → is_open e ≡ true → stays_open c e f ≡ true → Left c e f
 unfolding stays_open
-stays_left c e [] o s = record { p = _; q = _; between = open_has o; below = λ j m. absurd (Memᴰ.not_nil m) }
+stays_left c e [] o s = record { p = _; q = _; between = open_has o; below = λ j m. absurd (Memᴰ.not-nil m) }
 stays_left c e (j ∷ f) o s =
     let both = (and-eq-true_iff _ _).0 s in
     let l = stays_left c (narrowed c j e) f both.0 both.1 in

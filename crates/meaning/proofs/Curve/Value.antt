@@ -33,6 +33,7 @@ value_more k j f p q = refl
 -- no bucket is below the value
 pub value_least : (f : List Bucket) (p q : ℕ) {k : Bucket} → k ∈ f → value_at f p q ≤ bucket_at k p q
 unfolding value_at
+value_least [] p q {k = k} m = elim m [ ]
 value_least (j ∷ []) p q m = le_of_eq (same_bucket_at p q (sym (Memᴰ.eq_of_singleton m)))
 value_least (j ∷ i ∷ f) p q m =
     elim (Memᴰ.cases_cons m) [

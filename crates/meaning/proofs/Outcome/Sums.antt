@@ -79,7 +79,7 @@ last_highest f n k m =
 -- and its greatest rate first
 first_steepest : (f : List Bucket) → Falling f → (k : Bucket) → k ∈ f → k.rate ≤ (numbered f 1).rate
 unfolding Falling
-first_steepest [] n k m = absurd (Memᴰ.not_nil m)
+first_steepest [] n k m = absurd (Memᴰ.not-nil m)
 first_steepest (j ∷ f) n k m = cons_each {P = λ (i : Bucket). i.rate ≤ j.rate} (omega arith) (λ i h. le_of_lt (n.0 i h)) k m
 
 -- so these two tell whether it is in range

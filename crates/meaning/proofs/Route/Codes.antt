@@ -13,7 +13,7 @@ use Rattle.meaning.specs.Curve.{Bucket, width, curve_of, list_of}
 use Rattle.meaning.specs.Server.{Server}
 use Rattle.meaning.specs.Refusal.{LARGE, ROOM, number, Lines, ◌when◌, ◌or◌, Clear, Verdict, accepted, rejected, TooLarge, Question, all_lines, Outcome}
 use Rattle.meaning.specs.ServerQuestions.{port_lines, passing, BacklogOutcome, DelayOutcome, JoinOutcome, ServerOutcome}
-use Rattle.meaning.specs.Profile.{curve_kind, Profile, server, kind_in, profile_of, bytes_taken, file_lines, buckets_of, server_in, Reading, ReadOutcome}
+use Rattle.meaning.specs.Profile.{curve_kind, Profile, kind_in, profile_of, bytes_taken, file_lines, buckets_of, server_in, Reading, ReadOutcome}
 use Rattle.meaning.specs.Route.{first_file, IsCurve, IsServer, due_lines, join_lines, joined_with, Figures, hop_text, refused_text, Route}
 use Rattle.meaning.proofs.Lists.{list_length, over_start}
 use Rattle.meaning.proofs.Outcome.Outcomes.{number_positive, From, from_or, clear_or}

@@ -12,7 +12,7 @@ use Rattle.meaning.specs.Curve.{Bucket, bucket_at, value_at, NormalForm, reads}
 use Rattle.meaning.specs.Server.{RateLatency, rated, by_rate, served, GreatestGap, Excess, BehindRated, Backlog, last}
 use Rattle.meaning.specs.Computed.{excess, behind, backlog}
 use Rattle.meaning.proofs.Order.{le_or_lt}
-use Rattle.meaning.proofs.Curve.Value.{value_least, some}
+use Rattle.meaning.proofs.Curve.Value.{value_least}
 use Rattle.meaning.proofs.Server.Joining.{served_past}
 use Rattle.meaning.proofs.Curve.Normal.{normal_is}
 use Rattle.meaning.proofs.Server.Cut.{cut_filled, cut_at, by_line, by_slow, cut_reached, cut_early, cut_late, behind_cut}

@@ -14,7 +14,7 @@ use Rattle.meaning.specs.Curve.{Bucket, bucket_at, NormalForm, reads}
 use Rattle.meaning.specs.Server.{RateLatency, Server, rated, pure_delay, port, numbers_of, server_named, Instant, Amount, up_to, no_limit, ◌within◌, ◌fill◌, ◌plus◌, by_rate, served, GreatestGap, join_rated, join, later, BehindRated, Behind, Backlog, Suffices, DelayRated, HeldFor, Delay, last, Residual}
 use Rattle.meaning.specs.Refusal.{InRange}
 use Rattle.meaning.specs.ServerQuestions.{ServerInRange, Outruns}
-use Rattle.meaning.specs.Computed.{normal, behind, backlog, delay}
+use Rattle.meaning.specs.Computed.{behind, backlog, delay}
 use Rattle.meaning.proofs.Order.{le_or_lt, not_above}
 use Rattle.meaning.proofs.Curve.Value.{value_least, some}
 use Rattle.meaning.proofs.Curve.Reads.{reads_rise}

@@ -30,7 +30,7 @@ same_rate_below : {k j : Bucket} {n : ℕ} → k ≡ j → k.rate ≤ n → j.ra
 same_rate_below e h = rw (← e) h
 
 -- `slower` holds each bucket that is slow enough, seen a latency later
-pub slower_has : (s : RateLatency) {f : List Bucket} {k : Bucket} → k ∈ f → k.rate ≤ s.rate → later s.latency k ∈ slower s f
+pub slower_has : (s : RateLatency) {k : Bucket} {f : List Bucket} → k ∈ f → k.rate ≤ s.rate → later s.latency k ∈ slower s f
 unfolding slower
 slower_has s (Memᴰ.head {x = j} e) h =
     rw (le-leb j.rate s.rate (same_rate_below e h)) (Memᴰ.head (ap (later s.latency) e))

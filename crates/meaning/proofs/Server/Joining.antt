@@ -102,6 +102,7 @@ last_inside (k ∷ j ∷ f) h = Memᴰ.tail (last_inside (j ∷ f) (omega arith)
 -- no bucket's rate is below the last one's
 pub last_slowest : (f : List Bucket) → Falling f → {k : Bucket} → k ∈ f → (last f).rate ≤ k.rate
 unfolding Falling last
+last_slowest [] falling {k = k} m = elim m [ ]
 last_slowest (j ∷ []) falling m = le_of_eq (sym (same_rate (Memᴰ.eq_of_singleton m)))
 last_slowest (j ∷ i ∷ f) falling m =
     elim (Memᴰ.cases_cons m) [

@@ -86,6 +86,7 @@ steepest (k ∷ f) = max k.rate (steepest f)
 -- than which none of its buckets is faster
 pub none_steeper : (f : List Bucket) → NoFaster f (steepest f)
 unfolding steepest
+none_steeper [] k m = elim m [ ]
 none_steeper (j ∷ f) k (Memᴰ.head e) = omega (arith, same_rate e)
 none_steeper (j ∷ f) k (Memᴰ.tail m) = omega (arith, none_steeper f k m)
 
