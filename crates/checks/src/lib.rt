@@ -1,5 +1,7 @@
 // The tests for refusals, of one operand each, and the smaller of two codes. Each takes any list and any number, and answers the
 // number of the refusal table that wins, or 0.
+#![tactic(auto)]
+
 pub mod limits;
 
 ghost use Rattle.std.specs.Prelude.{◌≡◌, length};
