@@ -12,7 +12,7 @@ ghost use Rattle.meaning.specs.Computed.{earlier};
 ghost use Rattle.checks.specs.Cited.{Tells, bucket_of, nth};
 
 // A bucket.
-#[derive(Drop)]
+#[derive(Clone, Copy)]
 pub struct Bucket {
     pub rate: u64,
     pub burst: u64,

@@ -13,7 +13,7 @@ use operations::{curves, hops, ports, value};
 
 // A code, 0 for an answer, and the number of buckets, 0 for a refusal.
 #[repr(C)]
-#[derive(Drop)]
+#[derive(Clone, Copy)]
 pub struct duchrelin_answer {
     pub code: u64,
     pub count: u64,
@@ -21,7 +21,7 @@ pub struct duchrelin_answer {
 
 // A code, 0 for an answer, and the figure, 0 for a refusal.
 #[repr(C)]
-#[derive(Drop)]
+#[derive(Clone, Copy)]
 pub struct duchrelin_figure {
     pub code: u64,
     pub figure: u64,
@@ -29,7 +29,7 @@ pub struct duchrelin_figure {
 
 // A code, 0 for an answer, and the server in numbers: kind 2 and zeros for a refusal.
 #[repr(C)]
-#[derive(Drop)]
+#[derive(Clone, Copy)]
 pub struct duchrelin_server {
     pub code: u64,
     pub kind: u64,
@@ -39,7 +39,7 @@ pub struct duchrelin_server {
 
 // A code, 0 for a file that is accepted, its edition and kind, the count of buckets of a curve, and the rate and latency of a server.
 #[repr(C)]
-#[derive(Drop)]
+#[derive(Clone, Copy)]
 pub struct duchrelin_profile {
     pub code: u64,
     pub edition: u64,
@@ -51,7 +51,7 @@ pub struct duchrelin_profile {
 
 // A code, 0 for an answer, and the number of bytes written, 0 for a refusal.
 #[repr(C)]
-#[derive(Drop)]
+#[derive(Clone, Copy)]
 pub struct duchrelin_written {
     pub code: u64,
     pub bytes: u64,

@@ -10,7 +10,7 @@ use crate::crossings::{Crossing, crossing_at};
 use checks::limits;
 
 // By how many buckets a walk goes on in each list: 0 or 1.
-#[derive(Drop)]
+#[derive(Clone, Copy)]
 struct Step {
     first: usize,
     second: usize,

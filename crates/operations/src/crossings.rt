@@ -5,7 +5,7 @@ ghost use Rattle.operations.specs.Cited.{Tested, CrossingAt};
 
 // The time at which a bucket and the one before it have one value: rise / fall, by what the burst rises and the rate falls from the
 // one to the other.
-#[derive(Drop)]
+#[derive(Clone, Copy)]
 pub(crate) struct Crossing {
     pub(crate) rise: u64,
     pub(crate) fall: u64,

@@ -6,7 +6,7 @@ ghost use Rattle.meaning.specs.Refusal.{over};
 ghost use Rattle.operations.specs.Cited.{Tested, merged, NextOf, line_and_later};
 
 // A bucket, and whether it is the first curve's.
-#[derive(Drop)]
+#[derive(Clone, Copy)]
 struct Next {
     first: bool,
     rate: u64,

@@ -10,7 +10,7 @@ use settle::Answer;
 
 // A hop of a route: a code, 0 for an answer; the number of buckets of the curve behind, backlog and delay, each 0 for a refusal; and
 // the server passed, rate-latency (0, 0) for a refusal.
-#[derive(Drop)]
+#[derive(Clone, Copy)]
 pub struct Hop {
     pub code: u64,
     pub count: u64,

@@ -5,7 +5,7 @@ use crate::excess::{excess, first_slow};
 use crate::refusals;
 
 // The refusal of a curve at a server, or 0; and where it is 0, the first bucket of rate at most the server's, and M.
-#[derive(Drop)]
+#[derive(Clone, Copy)]
 pub(crate) struct Port {
     pub(crate) code: u64,
     pub(crate) first: usize,

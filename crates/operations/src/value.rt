@@ -4,7 +4,7 @@ ghost use Rattle.meaning.specs.CurveQuestions.{ValueOutcome, BurstOutcome};
 use crate::lowest::least_from;
 
 // A code, 0 for an answer, and the figure, 0 for a refusal.
-#[derive(Drop)]
+#[derive(Clone, Copy)]
 pub struct Figure {
     pub code: u64,
     pub figure: u64,

@@ -28,7 +28,7 @@ fn field_at(file: &[u8], at: usize, width: usize) -> u64
 }
 
 // A file, and the bit at which its next field begins.
-#[derive(Drop)]
+#[derive(Clone, Copy)]
 struct BitReader<'a> {
     file: &'a [u8],
     at: usize,

@@ -25,7 +25,7 @@ pub const CURVE: u64 = 1;
 
 // What the reader answers: a code, 0 for a file that is accepted, the edition, the kind, the number of buckets (0 for a server), and
 // the server (rate-latency (0, 0) for a curve). A refusal has its number, no server, and 0 for the rest.
-#[derive(Drop)]
+#[derive(Clone, Copy)]
 pub struct Profile {
     pub code: u64,
     pub edition: u64,
@@ -35,7 +35,7 @@ pub struct Profile {
 }
 
 // What a writer answers: a code, 0 for bytes that are written, and their count, 0 for a refusal.
-#[derive(Drop)]
+#[derive(Clone, Copy)]
 pub struct Written {
     pub code: u64,
     pub bytes: u64,

@@ -7,7 +7,7 @@ use checks::limits;
 use servers::ServerAnswer;
 
 // The first curve: a code, 0 for one that is read, and how many numbers its list has, 0 for a refusal.
-#[derive(Drop)]
+#[derive(Clone, Copy)]
 pub(crate) struct First {
     pub code: u64,
     pub numbers: usize,

@@ -14,7 +14,7 @@ const SERVERS: u64 = 32;
 
 // A hop of the route: a code, 0 for an answer; the number of buckets of the curve behind, backlog and delay; and the servers joined
 // so far.
-#[derive(Drop)]
+#[derive(Clone, Copy)]
 struct Step {
     code: u64,
     count: u64,

@@ -1,4 +1,5 @@
 // A server: the struct that stands for one everywhere, its test, how it joins the next one, and its numbers.
+#![tactic(auto)]
 ghost use Rattle.std.specs.Prelude.{◌≡◌, min};
 ghost use Rattle.meaning.specs.Server.{port, pure_delay, numbers_of, server_named, join};
 ghost use Rattle.meaning.specs.ServerQuestions.{JoinOutcome};
@@ -12,27 +13,27 @@ pub const RATE_LATENCY: u64 = 2;
 pub const PURE_DELAY: u64 = 3;
 
 // What a server is: rate-latency, with its two numbers, or a pure delay, with one.
-#[derive(Drop)]
+#[derive(Clone, Copy)]
 pub enum Kind {
     RateLatency { rate: u64, latency: u64 },
     PureDelay { latency: u64 },
 }
 
 // A switch port, which serves `rate` bits a tick once `latency` ticks are over; or a device that only delays.
-#[derive(Drop)]
+#[derive(Clone, Copy)]
 pub struct Server {
     pub kind: Kind,
 }
 
 // A code, 0 for an answer, and the server, rate-latency (0, 0) for a refusal.
-#[derive(Drop)]
+#[derive(Clone, Copy)]
 pub struct ServerAnswer {
     pub code: u64,
     pub server: Server,
 }
 
 // A server as a caller passes it and gets it. A pure delay has rate 0.
-#[derive(Drop)]
+#[derive(Clone, Copy)]
 pub struct Numbers {
     pub kind: u64,
     pub rate: u64,

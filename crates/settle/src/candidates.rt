@@ -8,14 +8,14 @@ ghost use Rattle.settle.specs.Cited.{bucket_from, Ahead, InOrder, Passed, Keeps,
 use checks::Bucket;
 
 // A bucket that is looked for, if there is one.
-#[derive(Drop)]
+#[derive(Clone, Copy)]
 struct Found {
     some: bool,
     bucket: Bucket,
 }
 
 // The next candidate, if there is one, and the index from which on the one after it is to be looked for.
-#[derive(Drop)]
+#[derive(Clone, Copy)]
 pub(crate) struct Candidate {
     pub(crate) some: bool,
     pub(crate) bucket: Bucket,

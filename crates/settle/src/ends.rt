@@ -8,7 +8,7 @@ use checks::Bucket;
 
 // The times at which a candidate is below the buckets seen so far: after low/low_over and before high/high_over (high_over 0:
 // no end).
-#[derive(Drop)]
+#[derive(Clone, Copy)]
 pub(crate) struct Ends {
     pub(crate) low: u64,
     pub(crate) low_over: u64,
@@ -17,7 +17,7 @@ pub(crate) struct Ends {
 }
 
 // The times that are left, and whether there are any.
-#[derive(Drop)]
+#[derive(Clone, Copy)]
 pub(crate) struct Left {
     pub(crate) ends: Ends,
     pub(crate) any: bool,

@@ -1,5 +1,6 @@
 // From raw buckets to the answer in a part of a lent table: the normal form is chosen in local memory, then handed over. These are
 // steps of the operations, and no entry points; each takes any list all the same.
+#![tactic(auto)]
 mod candidates;
 pub mod deliver;
 mod ends;
@@ -14,7 +15,7 @@ use crate::search::choose;
 use checks::limits;
 
 // A code, 0 for an answer, and the number of buckets, 0 for a refusal.
-#[derive(Drop)]
+#[derive(Clone, Copy)]
 pub struct Answer {
     pub code: u64,
     pub count: u64,

@@ -1,0 +1,7 @@
+-- `every_time` gives the ends between which every positive time lies.
+-- Assumes nothing.
+use Rattle.std.proofs.Common.{rules}
+use Rattle.settle.proofs.ends.every_time.Goals as goal
+
+pub returns : goal.returns
+returns c = search rules
