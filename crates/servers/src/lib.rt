@@ -1,5 +1,6 @@
 // A server: the struct that stands for one everywhere, its test, how it joins the next one, and its numbers.
 #![tactic(auto)]
+
 ghost use Rattle.std.specs.Prelude.{◌≡◌, min};
 ghost use Rattle.meaning.specs.Server.{port, pure_delay, numbers_of, server_named, join};
 ghost use Rattle.meaning.specs.ServerQuestions.{JoinOutcome};

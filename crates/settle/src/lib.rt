@@ -1,6 +1,7 @@
 // From raw buckets to the answer in a part of a lent table: the normal form is chosen in local memory, then handed over. These are
 // steps of the operations, and no entry points; each takes any list all the same.
 #![tactic(auto)]
+
 mod candidates;
 pub mod deliver;
 mod ends;

@@ -8,11 +8,11 @@ use Rattle.settle.specs.Cited.{Ready}
 use Rattle.settle.proofs.Picking.{Searched, Picked}
 use Rattle.settle.proofs.search.choose.Given as goal
 
-abbrev pub invariant-loop : goal.invariant-loop
-invariant-loop l = Searched l.raw l.c l.ends l.j
+abbrev pub invariant-loop-j : goal.invariant-loop-j
+invariant-loop-j l = Searched l.raw l.c l.ends l.j
 
-abbrev pub decreases-loop : goal.decreases-loop
-decreases-loop l = length l.raw - l.j
+abbrev pub decreases-loop-j : goal.decreases-loop-j
+decreases-loop-j l = length l.raw - l.j
 
 abbrev pub invariant-next : goal.invariant-next
 invariant-next l = Picked l.raw l.out l.count l.bound × Ready l.bound l.raw l.from l.ordered

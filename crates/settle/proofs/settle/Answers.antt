@@ -1,0 +1,17 @@
+-- `settle` meets its contract: each refusal in its place, and the normal form handed over.
+-- Assumes nothing.
+use Rattle.settle.proofs.Settling.{settles}
+use Rattle.std.proofs.Common.{rules}
+use Rattle.settle.proofs.settle.Goals as goal
+
+pub returns-then-code-ne0 : goal.returns-then-code-ne0
+returns-then-code-ne0 c = search (settles, rules)
+
+pub choose-count-requires : goal.choose-count-requires
+choose-count-requires c = search (settles, rules)
+
+pub returns-then-count-gt-BUCKETS : goal.returns-then-count-gt-BUCKETS
+returns-then-count-gt-BUCKETS c = search (settles, rules)
+
+pub returns : goal.returns
+returns c = search (settles, rules)
