@@ -1,121 +1,135 @@
 // Runs the figures of the scope that are not proved of the definitions, and prints a line for each: what is asked, the code,
 // the count of buckets, and the answered buckets; answers into a part of a table, with the whole table; and servers joined. The file
 // stdout beside src/ has what the scope says.
+#![tactic(auto)]
+
 ghost use Rattle.std.specs.Prelude.{◌≡◌, length};
 
-use libc::STDOUT_FILENO;
 use operations::curves::{lower_in, normalise, normalise_in, shape, shape_in, sum_in};
 use operations::hops::behind_in;
 use profiles::read_in;
 use servers::Server;
 use settle::Answer;
+use std::io;
 
 // A line: the words, the code, the count, and that many buckets of the list.
-fn show(words: &[u8], answer: Answer, list: &[u64]) {
-    io::write_all(STDOUT_FILENO, words);
-    show_number(answer.code);
-    show_number(answer.count);
-    show_buckets(answer.count, list);
-    io::write_all(STDOUT_FILENO, b"\n");
+fn show(rt: &impl Print, words: &str, answer: Answer, list: &[u64]) -> io::Result<()> {
+    print!(rt; "{words}")?;
+    show_number(rt, answer.code)?;
+    show_number(rt, answer.count)?;
+    show_buckets(rt, answer.count, list)?;
+    println!(rt)
 }
 
-fn show_number(n: u64) {
-    io::write_all(STDOUT_FILENO, b" ");
-    io::print_decimal(STDOUT_FILENO, n);
+fn show_number(rt: &impl Print, n: u64) -> io::Result<()> {
+    print!(rt; " {n}")
 }
 
 // Short answers are shown in full; of a long one the count says enough.
-fn show_buckets(count: u64, list: &[u64]) {
+fn show_buckets(rt: &impl Print, count: u64, list: &[u64]) -> io::Result<()> {
     if 5 < count {
-        return;
+        return Ok(());
     }
     let mut left = 2 * count;
     let mut i = 0;
     while i < list.len() {
         if left == 0 {
-            return;
+            return Ok(());
         }
-        show_number(list[i]);
+        show_number(rt, list[i])?;
         left -= 1;
         i += 1;
     }
+    Ok(())
 }
 
 // A line for an answer in a part of a table: the words, the code, the count, and the whole table.
-fn show_table(words: &[u8], code: u64, count: u64, table: &[u64]) {
-    io::write_all(STDOUT_FILENO, words);
-    show_number(code);
-    show_number(count);
-    show_buckets(5, table);
-    io::write_all(STDOUT_FILENO, b"\n");
+fn show_table(
+    rt: &impl Print,
+    words: &str,
+    code: u64,
+    count: u64,
+    table: &[u64],
+) -> io::Result<()> {
+    print!(rt; "{words}")?;
+    show_number(rt, code)?;
+    show_number(rt, count)?;
+    show_buckets(rt, 5, table)?;
+    println!(rt)
 }
 
 // Normalises the five raw buckets of P1 into a part of a table, the numbers from 3 on, and shows the whole table.
-fn show_in_part(words: &[u8], room: usize) {
+fn show_in_part(rt: &impl Print, words: &str, room: usize) -> io::Result<()> {
     let mut table = [9u64; 10];
     let answer = normalise_in(&[3, 20, 10, 2, 10, 2, 5, 15, 3, 25], &mut table, 3, room);
-    show_table(words, answer.code, answer.count, &table);
+    show_table(rt, words, answer.code, answer.count, &table)
 }
 
 // Curves that other questions answer into a part of a table: the numbers from 3 on, of which there are five.
-fn show_curves_in_parts() {
+fn show_curves_in_parts(rt: &impl Print) -> io::Result<()> {
     let mut table = [9u64; 10];
     let lowered = lower_in(&[10, 2], &[3, 20], &mut table, 3, 5);
     show_table(
-        b"lower {(10,2)} and {(3,20)} into a part:",
+        rt,
+        "lower {(10,2)} and {(3,20)} into a part:",
         lowered.code,
         lowered.count,
         &table,
-    );
+    )?;
 
     let mut table = [9u64; 10];
     let added = sum_in(&[10, 2], &[3, 20], &mut table, 3, 5);
     show_table(
-        b"sum {(10,2)} and {(3,20)} into a part:",
+        rt,
+        "sum {(10,2)} and {(3,20)} into a part:",
         added.code,
         added.count,
         &table,
-    );
+    )?;
 
     let mut table = [9u64; 10];
     let shaped = shape_in(&[3, 20], 10, 2, &mut table, 3, 5);
     show_table(
-        b"shape {(3,20)} by 10 with frames of 2, into a part:",
+        rt,
+        "shape {(3,20)} by 10 with frames of 2, into a part:",
         shaped.code,
         shaped.count,
         &table,
-    );
+    )
 }
 
 // The same at a server, and from a file.
-fn show_ports_in_parts() {
+fn show_ports_in_parts(rt: &impl Print) -> io::Result<()> {
     let mut table = [9u64; 10];
     let passed = behind_in(&[10, 2, 3, 20], servers::rated(6, 1), &mut table, 3, 5);
     show_table(
-        b"P5's curve behind (6,1) into a part:",
+        rt,
+        "P5's curve behind (6,1) into a part:",
         passed.code,
         passed.count,
         &table,
-    );
+    )?;
 
     let mut table = [9u64; 10];
     let late = behind_in(&[10, 2, 3, 20], servers::pure_delay(4), &mut table, 3, 5);
     show_table(
-        b"that curve behind a delay of 4 into a part:",
+        rt,
+        "that curve behind a delay of 4 into a part:",
         late.code,
         late.count,
         &table,
-    );
+    )?;
 
     let mut table = [9u64; 10];
     let file = [0x11, 0x00, 0x00, 0x02, 0x80, 0x00, 0x00, 0x00, 0x00, 0x80];
     let read = read_in(&file, &mut table, 3, 5);
     show_table(
-        b"P11's curve read into a part:",
+        rt,
+        "P11's curve read into a part:",
         read.code,
         read.count,
         &table,
-    );
+    )
 }
 
 // Buckets (200 - i, i * i): rates fall and crossings rise, so each is useful.
@@ -133,56 +147,58 @@ fn spread() -> [u64; 130]
 }
 
 // Normalises a raw list, and shows what is answered.
-fn show_normalised(words: &[u8], raw: &[u64]) {
+fn show_normalised(rt: &impl Print, words: &str, raw: &[u64]) -> io::Result<()> {
     let mut out = [0u64; 128];
     let answer = normalise(raw, &mut out);
-    show(words, answer, &out);
+    show(rt, words, answer, &out)
 }
 
 // Joins a server of rate 1 and the longest latency with another one, and shows what is answered.
-fn show_joined(words: &[u8], next: Server) {
+fn show_joined(rt: &impl Print, words: &str, next: Server) -> io::Result<()> {
     let longest = servers::rated(1, 1_048_575);
     let answer = longest.join(next);
     let server = answer.server;
     let joined = server.numbers();
-    io::write_all(STDOUT_FILENO, words);
-    show_number(answer.code);
-    show_number(joined.kind);
-    show_number(joined.rate);
-    show_number(joined.latency);
-    io::write_all(STDOUT_FILENO, b"\n");
+    print!(rt; "{words}")?;
+    show_number(rt, answer.code)?;
+    show_number(rt, joined.kind)?;
+    show_number(rt, joined.rate)?;
+    show_number(rt, joined.latency)?;
+    println!(rt)
 }
 
 // {(3,20)} shaped by a link of rate 10 with frames of up to so many bits.
-fn show_shaped(words: &[u8], frame: u64) {
+fn show_shaped(rt: &impl Print, words: &str, frame: u64) -> io::Result<()> {
     let mut out = [0u64; 4];
     let shaped = shape(&[3, 20], 10, frame, &mut out);
-    show(words, shaped, &out);
+    show(rt, words, shaped, &out)
 }
 
-fn main() {
-    show_shaped(b"shape {(3,20)} by 10:", 0);
-    show_shaped(b"shape {(3,20)} by 10 with frames of 2:", 2);
+fn main(rt: HostRuntime) -> io::Result<()> {
+    show_shaped(&rt, "shape {(3,20)} by 10:", 0)?;
+    show_shaped(&rt, "shape {(3,20)} by 10 with frames of 2:", 2)?;
 
     let raw = spread();
-    show_normalised(b"normalise 64 raw buckets:", &raw[..128]);
-    show_normalised(b"normalise 65 raw buckets:", &raw);
-    show_normalised(b"normalise burst 2^40-1:", &[0, 1_099_511_627_775]);
-    show_normalised(b"normalise burst 2^40:", &[0, 1_099_511_627_776]);
+    show_normalised(&rt, "normalise 64 raw buckets:", &raw[..128])?;
+    show_normalised(&rt, "normalise 65 raw buckets:", &raw)?;
+    show_normalised(&rt, "normalise burst 2^40-1:", &[0, 1_099_511_627_775])?;
+    show_normalised(&rt, "normalise burst 2^40:", &[0, 1_099_511_627_776])?;
 
-    show_in_part(b"normalise P1 into a part of 4 numbers:", 4);
-    show_in_part(b"normalise P1 into a part of 3 numbers:", 3);
-    show_curves_in_parts();
-    show_ports_in_parts();
+    show_in_part(&rt, "normalise P1 into a part of 4 numbers:", 4)?;
+    show_in_part(&rt, "normalise P1 into a part of 3 numbers:", 3)?;
+    show_curves_in_parts(&rt)?;
+    show_ports_in_parts(&rt)?;
 
-    show_joined(b"join (1,2^20-1) with (1,0):", servers::rated(1, 0));
-    show_joined(b"join (1,2^20-1) with (1,1):", servers::rated(1, 1));
+    show_joined(&rt, "join (1,2^20-1) with (1,0):", servers::rated(1, 0))?;
+    show_joined(&rt, "join (1,2^20-1) with (1,1):", servers::rated(1, 1))?;
     show_joined(
-        b"join (1,2^20-1) with a delay of 0:",
+        &rt,
+        "join (1,2^20-1) with a delay of 0:",
         servers::pure_delay(0),
-    );
+    )?;
     show_joined(
-        b"join (1,2^20-1) with a delay of 1:",
+        &rt,
+        "join (1,2^20-1) with a delay of 1:",
         servers::pure_delay(1),
-    );
+    )
 }

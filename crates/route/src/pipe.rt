@@ -2,68 +2,80 @@
 // those that a signal interrupts are tried again.
 ghost use Rattle.route.specs.Cited.{Fetched};
 
-use libc::EINTR;
+use std::io;
+use std::io::{Error, ErrorKind, Read};
 
 // A program ends, so it makes only so many calls: far more than one for each byte.
 const MOST_CALLS: usize = 100_000;
 
-// Whether all was read that there is, up to the buffer's end, and how many bytes.
+// The system's number for a call that a signal interrupted.
+const EINTR: i32 = 4;
+
+// Whether all was read that there is, up to the buffer's end, or else why not; and how many bytes.
 #[derive(Drop)]
 pub(crate) struct Input {
-    pub(crate) whole: bool,
+    pub(crate) whole: io::Result<()>,
     pub(crate) count: usize,
 }
 
-// Whether the last call failed for good, and was not only interrupted.
-fn failed(moved: isize) -> bool {
-    if 0 <= moved {
-        return false;
-    }
-    os::errno() != EINTR
+// Whether a call failed for good, and was not only interrupted.
+fn failed(error: &Error) -> bool {
+    error.kind() != ErrorKind::Interrupted
 }
 
 // Reads standard input to the start of a buffer, until it is full or the input ends.
-pub(crate) fn fetch(buffer: &mut [u8]) -> Input
+pub(crate) fn fetch(rt: &impl io::Input, buffer: &mut [u8]) -> Input
     ensures { Fetched buffer.new result }
 {
+    let mut reader = rt.reader();
     let mut count = 0;
     for _ in 0..MOST_CALLS {
         if count == buffer.len() {
-            return Input { whole: true, count };
-        }
-        let moved = libc::read(libc::STDIN_FILENO, &mut buffer[count..]);
-        if moved == 0 {
-            return Input { whole: true, count };
-        }
-        if failed(moved) {
             return Input {
-                whole: false,
+                whole: Ok(()),
                 count,
             };
         }
-        count += io::count(moved, &buffer[count..]);
+        match reader.read(&mut buffer[count..]) {
+            Ok(0) => {
+                return Input {
+                    whole: Ok(()),
+                    count,
+                };
+            }
+            Ok(moved) => count += moved,
+            Err(error) => {
+                if failed(&error) {
+                    return Input {
+                        whole: Err(error),
+                        count,
+                    };
+                }
+            }
+        }
     }
     Input {
-        whole: false,
+        whole: Err(Error::from_raw_os_error(EINTR)),
         count,
     }
 }
 
-// Writes all of a text to standard output, and tells whether that went well.
-pub(crate) fn send(text: &[u8]) -> bool {
+// Writes all of a text to standard output, or tells why that did not go well.
+pub(crate) fn send(rt: &impl Print, text: &[u8]) -> io::Result<()> {
     let mut count = 0;
     for _ in 0..MOST_CALLS {
         if count == text.len() {
-            return true;
+            return Ok(());
         }
-        let moved = libc::write(libc::STDOUT_FILENO, &text[count..]);
-        if moved == 0 {
-            return false;
+        match rt.write_some(&text[count..]) {
+            Ok(0) => return Err(Error::from(ErrorKind::WriteZero)),
+            Ok(moved) => count += moved,
+            Err(error) => {
+                if failed(&error) {
+                    return Err(error);
+                }
+            }
         }
-        if failed(moved) {
-            return false;
-        }
-        count += io::count(moved, &text[count..]);
     }
-    false
+    Err(Error::from_raw_os_error(EINTR))
 }

@@ -1,0 +1,68 @@
+// The route program: standard input to standard output. What is read and written no contract can say; the report itself is the
+// proved function `routes::route`.
+#![tactic(auto)]
+
+mod pipe;
+
+ghost use Rattle.route.specs.Cited.{Status};
+
+use std::fmt::InlineText;
+use std::io::Error;
+use std::process::ExitCode;
+
+// Where the route was answered, where it was refused, and where it could not be read or written.
+const ANSWERED: i32 = 0;
+
+const REFUSED: i32 = 1;
+
+const FAILED: i32 = 2;
+
+// The bytes of an input that decide its report, whatever follows (theorem `first_decide`), and those of the longest report.
+const INPUT_BYTES: usize = 675;
+
+const TEXT_BYTES: usize = 1145;
+
+// The words of an error's text, without the number that may follow them.
+fn words(text: &str) -> &str {
+    match text.split_once(" (os error ") {
+        Some((words, _)) => words,
+        None => text,
+    }
+}
+
+// Writes a line to standard error: what failed, a colon and the error's words.
+fn complain(rt: &impl Eprint, what: &str, error: Error) {
+    let text = InlineText::<128>::of(&error);
+    let words = words(text.as_str());
+    let _ = eprintln!(rt; "{what}: {words}");
+}
+
+// Reports the route on standard input. Answers the program's exit status.
+pub fn duchrelin_route_program(rt: &(impl Input + Print + Eprint)) -> i32
+    ensures { Status result }
+{
+    let mut input = [0u8; INPUT_BYTES];
+    let got = pipe::fetch(rt, &mut input);
+    if let Err(error) = got.whole {
+        complain(rt, "route: standard input", error);
+        return FAILED;
+    }
+    let count = got.count;
+    let mut text = [0u8; TEXT_BYTES];
+    let written = routes::route(&input[..count], &mut text);
+    let bytes = written.bytes as usize;
+    if let Err(error) = pipe::send(rt, &text[..bytes]) {
+        complain(rt, "route: standard output", error);
+        return FAILED;
+    }
+    // A report begins with the line of a hop, and a refusal with its own word.
+    if text[0] == b'r' {
+        return REFUSED;
+    }
+    ANSWERED
+}
+
+// The program ends with that status.
+fn main(rt: HostRuntime) -> ExitCode {
+    ExitCode::from(duchrelin_route_program(&rt) as u8)
+}
