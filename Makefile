@@ -32,13 +32,12 @@ proved = crates.txt $(foreach part,src specs proofs,$(wildcard crates/*/$(part)/
 
 all: $(archive) $(route) $(screen)
 
-$(archive): $(proved)
-	rm -f $@
-	$(RT) staticlib duchrelin
-
 # (One check at a time: two at once would only wait for each other.)
-$(route): $(proved) programs/route.c programs/build
-	RT=$(RT) CC=$(CC) programs/build
+$(archive): $(proved) programs/archive
+	RT=$(RT) programs/archive
+
+$(route): $(proved) programs/build
+	RT=$(RT) programs/build
 
 $(screen): $(wildcard examples/screen/*.c examples/screen/*.h) $(headers) $(archive) Makefile
 	mkdir -p $(@D)

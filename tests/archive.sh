@@ -24,14 +24,15 @@ build_archive() { # proves what the library needs, and writes the archive
   built "$archive" && return
   need rt
   rm -f "$archive"
-  rt staticlib duchrelin || give_up "the library is not built"
+  programs/archive || give_up "the library is not built"
+  [ -f "$archive" ] || give_up "no archive $archive"
 }
 
 build_route() { # proves what the program route needs, and writes target/bin/route
   built target/bin/route && return
-  need rt gcc
+  need rt
   rm -f target/bin/route
-  CC=gcc programs/build || give_up "the program route is not built"
+  programs/build || give_up "the program route is not built"
   [ -x target/bin/route ] || give_up "no program target/bin/route"
 }
 

@@ -98,7 +98,7 @@ for page in pages:
     test(f"every path that {page} names is there", absent)
 
 readme = read("README.md")
-crates = re.findall(r"^(\w+):", read("crates.txt"), flags=re.M)
+crates = re.findall(r"^(\w+)(?: staticlib)?:", read("crates.txt"), flags=re.M)
 test("the README names every crate", [c for c in crates if f"crates/{c}" not in readme])
 test(
     "the README names every page of docs/",
