@@ -1,5 +1,7 @@
 // The operations for C, under the names that include/duchrelin.h declares. A list passes as a pointer and a count of numbers, a
 // result by value. Each function has the contract of the function that it calls, of a crate below.
+#![tactic(auto)]
+
 ghost use Rattle.meaning.specs.Server.{server_named};
 ghost use Rattle.meaning.specs.Refusal.{Outcome};
 ghost use Rattle.meaning.specs.CurveQuestions.{normalising, lowering, summing, shaping, ValueOutcome, BurstOutcome};

@@ -19,7 +19,7 @@ use Rattle.meaning.proofs.Lists.{append_each, at_inside, inside_at, falling_at}
 use Rattle.meaning.proofs.Order.{le_or_lt}
 use Rattle.meaning.proofs.Curve.Value.{same_rate, same_bucket_at, value_unique}
 use Rattle.meaning.proofs.Curve.Reads.{burst_below}
-use Rattle.meaning.proofs.Server.Excess.{Turn, tick, before_lowest, first_lowest, turn_excess, starting_excess}
+use Rattle.meaning.proofs.Server.Excess.{Turn, before_lowest, first_lowest, turn_excess, starting_excess}
 use Rattle.checks.specs.Cited.{nth}
 use Rattle.checks.proofs.Buckets.{left_from}
 use Rattle.operations.specs.Cited.{bucket, Tested, LeastOf, FirstSlow, CrossingAt, tick_of}

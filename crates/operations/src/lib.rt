@@ -2,6 +2,8 @@
 // refuses what it cannot take, with the number that wins. A curve goes to the start of a lent list, or of a part of a larger
 // table: the `room` numbers from `at`, as far as the table has them. What lies beyond it stays, and on a refusal everything
 // does.
+#![tactic(auto)]
+
 mod adding;
 mod bounds;
 mod crossings;

@@ -3,7 +3,7 @@
 ghost use Rattle.std.specs.Prelude.{◌≡◌};
 ghost use Rattle.meaning.specs.Profile.{spelt, padding};
 ghost use Rattle.checks.specs.Cited.{Tells};
-ghost use Rattle.meaning.proofs.profile.RoundTrip.{RightHeader};
+ghost use Rattle.meaning.proofs.Profile.RoundTrip.{RightHeader};
 ghost use Rattle.profiles.specs.Cited.{Whole, Framed, Tested};
 
 use crate::bits;

@@ -1,4 +1,6 @@
 // The store's profile file, read and written: fields one behind the other without gaps, the highest bit of each first.
+#![tactic(auto)]
+
 mod bits;
 mod frame;
 mod packing;

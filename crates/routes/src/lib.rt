@@ -1,4 +1,6 @@
 // The route program's work: from its whole input to its whole text, in a lent buffer.
+#![tactic(auto)]
+
 mod reading;
 mod text;
 mod walk;

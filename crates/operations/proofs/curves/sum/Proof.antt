@@ -1,9 +1,0 @@
--- The whole list is the part that starts at 0. Assumes nothing.
-use Rattle.operations.proofs.Asking.{asking}
-use borrow.Author.Rules.{rules}
-use Rattle.operations.proofs.curves.sum.Statement.{statement}
-use Rattle.operations.proofs.curves.sum.Tie as tie
-
-pub sum-spec : {M : Type 1} → statement M
-sum-spec =
-    tie.close (tie.spec (λ c κs. search rules) (λ c. search rules) (λ c. search (asking, rules)))

@@ -1,0 +1,13 @@
+-- An operand is refused, or the delay is answered. Assumes nothing.
+use Rattle.operations.proofs.Sharing.{port_figures}
+use Rattle.std.proofs.Common.{rules}
+use Rattle.operations.proofs.rated.delay.Goals as goal
+
+pub returns-then-code-ne0 : goal.returns-then-code-ne0
+returns-then-code-ne0 c = search (port_figures, rules)
+
+pub delay_of-requires-clause-tested_port : goal.delay_of-requires-clause-tested_port
+delay_of-requires-clause-tested_port c = search (port_figures, rules)
+
+pub returns : goal.returns
+returns c = search (port_figures, rules)

@@ -1,0 +1,14 @@
+-- `walk` goes through the input hop by hop. The loop's invariant: `Walking`. The measure is how many servers may still come.
+-- Assumes nothing.
+use Prim.Native.Nat.{◌-◌}
+use Rattle.servers.specs.Cited.{server_of}
+use Rattle.routes.proofs.Walking.{Walking}
+use Rattle.routes.proofs.walk.walk.Given as goal
+
+abbrev pub invariant-loop-curve : goal.invariant-loop-curve
+invariant-loop-curve l =
+    Walking l.input l.first l.initial.text l.text l.end l.passed (server_of l.joined) l.curve l.numbers l.next l.at
+
+abbrev pub decreases-loop-curve : goal.decreases-loop-curve
+decreases-loop-curve l =
+    32 - l.passed
