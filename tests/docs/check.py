@@ -66,7 +66,7 @@ misplaced = []
 named = 0
 for words, file in re.findall(r"((?:`[^`|]+`[^`|()]{0,40}?)+)\(([A-Za-z]+(?:/[A-Za-z]+)?)\)", coverage):
     texts = [t for t in (proofs.get(file), places.get(file)) if t is not None]
-    for name in re.findall(r"`([\w-]+)`", words) if texts else []:
+    for name in re.findall(r"`([\w◌-]+)`", words) if texts else []:
         named += 1
         if not any(declares(t, name) for t in texts):
             misplaced.append(f"{name} does not stand in {file}")
