@@ -24,7 +24,7 @@ unfolding crossings_rise
 is_normal [] = false
 is_normal (k ∷ f) = crossings_rise k 0 1 f
 
--- The times at which a candidate is strictly below the buckets seen so far: after low/lowOver and before high/highOver
+-- The times at which a candidate is strictly below the buckets seen so far: after low/low_over and before high/high_over
 -- (high_over 0: no end).
 pub record Ends : Type 0 where
   pub low : ℕ

@@ -120,7 +120,7 @@ unfolding later
 slower s [] = []
 slower s (k ∷ f) = cond (leb k.rate s.rate) (later s.latency k ∷ slower s f) (slower s f)
 
--- behind a rate-latency server: those, and the bucket (R, R-as-T + M), in normal form.
+-- behind a rate-latency server: those, and the bucket (R, R·T + M), in normal form.
 pub record BehindRated (f : List Bucket) (s : RateLatency) (g : List Bucket) : Type 0 where
   pub m : ℕ
   pub excess : Excess f s.rate m
@@ -149,8 +149,8 @@ pub record HeldFor (f : List Bucket) (latency d : ℕ) : Type 0 where
   pub nothing : ((t : Instant) → reads f t ≡ 0) → d ≡ 0
 
 -- delay. Of a pure delay, and of no other, it is the horizontal distance between curve and service, an infimum: every larger number
--- suffices, and it may itself be a tick short. (How it stands to what is served say the laws `held-suffices` and `held-needed`, and
--- over fractions `held-infimum`.)
+-- suffices, and it may itself be a tick short. (How it stands to what is served say the laws `held_suffices` and `held_needed`, and
+-- over fractions `held_infimum`.)
 pub data Delay (f : List Bucket) : Server → ℕ → Type 0 where
   of_rate : {s : RateLatency} {d : ℕ} → DelayRated f s d → Delay f (rated s) d
   of_delay : {latency d : ℕ} → HeldFor f latency d → Delay f (pure_delay latency) d

@@ -59,7 +59,7 @@ fn step_of(f: &[u64], g: &[u64], i: usize, j: usize) -> Step
 // them.
 pub(crate) fn add(f: &[u64], g: &[u64], out: &mut [u64]) -> usize
     requires tested { (Tested (curve_of f.now)) × (Tested (curve_of g.now)) }
-    requires in_bounds { 130 ≤ length out.old }
+    requires room { 130 ≤ length out.old }
     ensures place { result ≡ length (flat (take 65 (merged_sum (curve_of f.now) (curve_of g.now)))) }
     ensures written { out.new ≡ over (flat (take 65 (merged_sum (curve_of f.now) (curve_of g.now)))) out.old }
 {

@@ -9,7 +9,7 @@ ghost use Rattle.operations.specs.Cited.{Tested, TestedPort, FirstSlow};
 use crate::lowest::least_from;
 use crate::refusals::last_bucket;
 
-// The backlog is the burst of the curve behind: the smaller of R.T + M and of the least b + typeof.r.T of the buckets of rate at most
+// The backlog is the burst of the curve behind: the smaller of R·T + M and of the least b + r·T of the buckets of rate at most
 // R, which begin at `first`.
 pub(crate) fn backlog_of(curve: &[u64], rate: u64, latency: u64, first: usize, excess: u64) -> u64
     requires tested_port { TestedPort (curve_of curve.now) rate latency }
@@ -27,8 +27,8 @@ pub(crate) fn backlog_of(curve: &[u64], rate: u64, latency: u64, first: usize, e
 
 // A quotient rounded up.
 pub(crate) fn rounded_up(a: u64, b: u64) -> u64
-    requires a_bound { a < 2 ^ 40 }
-    requires le_b { (1 ≤ b) × (b < 2 ^ 20) }
+    requires dividend_fits { a < 2 ^ 40 }
+    requires divisor_fits { (1 ≤ b) × (b < 2 ^ 20) }
     ensures { result ≡ rounded_up a b }
 {
     (a + b - 1) / b

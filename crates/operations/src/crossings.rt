@@ -14,7 +14,7 @@ pub(crate) struct Crossing {
 // The crossing of the bucket numbered k, from 0, with the one before it.
 pub(crate) fn crossing_at(curve: &[u64], k: usize) -> Crossing
     requires tested { Tested (curve_of curve.now) }
-    requires k_nonzero { (0 < k) × (k < length (curve_of curve.now)) }
+    requires past_the_first { (0 < k) × (k < length (curve_of curve.now)) }
     ensures { CrossingAt (curve_of curve.now) k result }
 {
     let before = checks::bucket_at(curve, k - 1);

@@ -67,7 +67,7 @@ pub(crate) fn residual(latency: u64, cross: &[u64]) -> ServerAnswer
 // The curve's buckets, each read `latency` ticks later, in normal form. (The first stands where a rate-latency server has its line.)
 fn settled(curve: &[u64], latency: u64, table: &mut [u64], at: usize, room: usize) -> Answer
     requires tested { Tested (curve_of curve.now) }
-    requires latency_bound { latency < 2 ^ 20 }
+    requires latency_fits { latency < 2 ^ 20 }
     ensures { PartOutcome (settling (flat (map (later latency) (curve_of curve.now)))) at room table.old table.new result.code result.count }
 {
     let mut raw = [0u64; 130];

@@ -10,7 +10,7 @@ use crate::lowest::{least_before, least_from};
 // The number of the first bucket that is no faster than R. The last one is not, so the search ends there at the latest.
 pub(crate) fn first_slow(curve: &[u64], rate: u64) -> usize
     requires tested { Tested (curve_of curve.now) }
-    requires curve_bound { (last (curve_of curve.now)).rate ≤ rate }
+    requires bounded { (last (curve_of curve.now)).rate ≤ rate }
     ensures { FirstSlow (curve_of curve.now) rate result }
 {
     let mut k = 0;
@@ -46,7 +46,7 @@ fn larger(a: u64, b: u64) -> u64
 // The whole tick up to the crossing of the bucket numbered k with the one before it.
 fn tick_of(curve: &[u64], k: usize) -> u64
     requires tested { Tested (curve_of curve.now) }
-    requires k_nonzero { (0 < k) × (k < length (curve_of curve.now)) }
+    requires past_the_first { (0 < k) × (k < length (curve_of curve.now)) }
     ensures { result ≡ tick_of (curve_of curve.now) k }
 {
     let crossing = crossing_at(curve, k);
@@ -59,7 +59,7 @@ fn tick_of(curve: &[u64], k: usize) -> u64
 pub(crate) fn excess(curve: &[u64], rate: u64, first: usize) -> u64
     requires tested { Tested (curve_of curve.now) }
     requires first_slow { FirstSlow (curve_of curve.now) rate first }
-    requires rate_bound { rate < 2 ^ 20 }
+    requires rate_fits { rate < 2 ^ 20 }
     ensures { Excess (curve_of curve.now) rate result }
 {
     if first == 0 {

@@ -15,8 +15,8 @@ struct Next {
 
 // The next bucket of two curves merged by falling rates, where i and j of them are passed.
 fn next_of(f: &[u64], g: &[u64], i: usize, j: usize) -> Next
-    requires j_in_bounds { i + j < length (curve_of f.now) + length (curve_of g.now) }
-    requires i_in_bounds { (i ≤ length (curve_of f.now)) × (j ≤ length (curve_of g.now)) }
+    requires some_left { i + j < length (curve_of f.now) + length (curve_of g.now) }
+    requires inside { (i ≤ length (curve_of f.now)) × (j ≤ length (curve_of g.now)) }
     ensures { NextOf (drop i (curve_of f.now)) (drop j (curve_of g.now)) result }
 {
     let a = checks::bucket_at(f, i);
@@ -51,8 +51,8 @@ fn next_of(f: &[u64], g: &[u64], i: usize, j: usize) -> Next
 
 // The buckets of two curves, merged by falling rates, written to the start of a list. Answers the place after them.
 pub(crate) fn merge(f: &[u64], g: &[u64], out: &mut [u64]) -> usize
-    requires f_len_bound { (length (curve_of f.now) ≤ 64) × (length (curve_of g.now) ≤ 64) }
-    requires in_bounds { 256 ≤ length out.old }
+    requires few { (length (curve_of f.now) ≤ 64) × (length (curve_of g.now) ≤ 64) }
+    requires room { 256 ≤ length out.old }
     ensures place { result ≡ length (flat (merged (curve_of f.now) (curve_of g.now))) }
     ensures written { out.new ≡ over (flat (merged (curve_of f.now) (curve_of g.now))) out.old }
 {
@@ -85,8 +85,8 @@ pub(crate) fn line_and_later(
 ) -> usize
     requires tested { Tested (curve_of curve.now) }
     requires first_in_bounds { first ≤ length (curve_of curve.now) }
-    requires latency_bound { latency < 2 ^ 20 }
-    requires in_bounds { 130 ≤ length out.old }
+    requires latency_fits { latency < 2 ^ 20 }
+    requires room { 130 ≤ length out.old }
     ensures place { result ≡ length (flat (line_and_later (curve_of curve.now) first rate burst latency)) }
     ensures written { out.new ≡ over (flat (line_and_later (curve_of curve.now) first rate burst latency)) out.old }
 {

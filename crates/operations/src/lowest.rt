@@ -10,7 +10,7 @@ ghost use Rattle.operations.specs.Cited.{Tested, LeastOf};
 fn value_of(curve: &[u64], k: usize, tick: u64) -> u64
     requires all_in_range { AllInRange (curve_of curve.now) }
     requires k_in_bounds { k < length (curve_of curve.now) }
-    requires tick_bound { tick ≤ 2 ^ 40 }
+    requires tick_fits { tick ≤ 2 ^ 40 }
     ensures { result ≡ bucket_at (nth (curve_of curve.now) k) tick 1 }
 {
     let here = checks::bucket_at(curve, k);
@@ -21,7 +21,7 @@ fn value_of(curve: &[u64], k: usize, tick: u64) -> u64
 pub(crate) fn least_from(curve: &[u64], from: usize, tick: u64) -> u64
     requires tested { Tested (curve_of curve.now) }
     requires from_in_bounds { from < length (curve_of curve.now) }
-    requires tick_bound { tick ≤ 2 ^ 40 }
+    requires tick_fits { tick ≤ 2 ^ 40 }
     ensures { LeastOf (curve_of curve.now) tick from (length (curve_of curve.now)) result }
 {
     let count = checks::bucket_count(curve);
@@ -41,9 +41,9 @@ pub(crate) fn least_from(curve: &[u64], from: usize, tick: u64) -> u64
 // The least value at a tick of the buckets before the one numbered `end`.
 pub(crate) fn least_before(curve: &[u64], end: usize, tick: u64) -> u64
     requires tested { Tested (curve_of curve.now) }
-    requires end_nonzero { 0 < end }
+    requires some { 0 < end }
     requires end_in_bounds { end ≤ length (curve_of curve.now) }
-    requires tick_bound { tick ≤ 2 ^ 40 }
+    requires tick_fits { tick ≤ 2 ^ 40 }
     ensures { LeastOf (curve_of curve.now) tick 0 end result }
 {
     let mut k = end - 1;

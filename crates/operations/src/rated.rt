@@ -68,7 +68,7 @@ pub(crate) fn residual(rate: u64, latency: u64, cross: &[u64]) -> ServerAnswer
     }
 }
 
-// (R, R.T + M), and the buckets from `first` on, each read T ticks later, in normal form.
+// (R, R·T + M), and the buckets from `first` on, each read T ticks later, in normal form.
 fn settled(
     curve: &[u64],
     rate: u64,

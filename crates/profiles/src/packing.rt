@@ -85,7 +85,7 @@ fn pack_head(edition: u64, count: usize, bytes: &mut [u8]) -> u64
 // Packs the buckets of a curve one after the other, behind the count.
 fn pack_buckets(curve: &[u64], bytes: &mut [u8], left: u64) -> u64
     requires packable_curve { PackableCurve curve.now bytes.old }
-    requires left_bound { left < 64 }
+    requires left_fits { left < 64 }
     ensures { Appends bytes.old 14 left (bucket_bits curve.now) bytes.new (bit_count curve.now) result }
 {
     let count = checks::bucket_count(curve);
@@ -102,7 +102,7 @@ fn pack_buckets(curve: &[u64], bytes: &mut [u8], left: u64) -> u64
 
 // Packs a curve, with zero bits up to the byte's end, and answers how many bytes it takes.
 pub(crate) fn pack_curve(edition: u64, curve: &[u64], bytes: &mut [u8]) -> usize
-    requires edition_bound { edition < 2 ^ 4 }
+    requires edition_fits { edition < 2 ^ 4 }
     requires packable_curve { PackableCurve curve.now bytes.old }
     ensures { Packed (curve_bytes edition curve.now) bytes.new result }
 {

@@ -43,7 +43,7 @@ pub(crate) fn server(file: &[u8]) -> Profile
 // Takes the rates and bursts of so many buckets from a file, one after the other.
 fn decode(file: &[u8], count: usize, pairs: &mut [u64])
     requires holds { Holds file.now count }
-    requires pairs_len { length pairs.old ≡ 128 }
+    requires room { length pairs.old ≡ 128 }
     ensures { Decoded file.now count pairs.new }
 {
     let mut k = 0;

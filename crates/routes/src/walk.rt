@@ -49,7 +49,7 @@ fn join_to(passed: u64, joined: Server, next: Server) -> ServerAnswer
 // The hop at the server that stands at a place of the input: it is read, and the curve passes it.
 fn hop_at(input: &[u8], at: usize, curve: &[u64], next: &mut [u64]) -> Hop
     requires at_in_bounds { at ≤ length input.now }
-    requires next_len { length next.old ≡ 128 }
+    requires room { length next.old ≡ 128 }
     ensures { HopAt (drop at input.now) curve.now next.new result.code result.count result.backlog result.delay (server_of result.server) }
 {
     let read = reading::read_server(&input[at..]);
@@ -77,7 +77,7 @@ fn step_at(
 ) -> Step
     requires at_in_bounds { at ≤ length input.now }
     requires stepping { Stepping curve.now passed (server_of joined) }
-    requires next_len { length next.old ≡ 128 }
+    requires room { length next.old ≡ 128 }
     ensures { Stepped curve.now passed (server_of joined) (drop at input.now) next.new result.code result.count result.backlog result.delay (server_of result.joined) }
 {
     let hop = hop_at(input, at, curve, next);
@@ -118,7 +118,7 @@ pub(crate) fn walk(
     text: &mut [u8],
 ) -> usize
     requires starts { Starts input.now first.now start curve }
-    requires text_len { length text.old ≡ 1145 }
+    requires room { length text.old ≡ 1145 }
     ensures { TextOf input.now text.new result }
 {
     let mut numbers = first.len();

@@ -165,8 +165,8 @@ fn latency_of(kind: Kind) -> u64
 
 // The joined kind of two servers whose latencies are in range.
 fn joined(first: Kind, second: Kind) -> Kind
-    requires late { Late (of_kind first) }
-    requires late_2 { Late (of_kind second) }
+    requires first_late { Late (of_kind first) }
+    requires second_late { Late (of_kind second) }
     ensures { of_kind result ≡ join (of_kind first) (of_kind second) }
 {
     let latency = latency_of(first) + latency_of(second);

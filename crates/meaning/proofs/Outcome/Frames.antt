@@ -29,7 +29,7 @@ use Rattle.meaning.proofs.Outcome.KnownServers.{one_form}
 use Rattle.meaning.proofs.Outcome.AtOnce.{read_at_zero}
 use Rattle.meaning.proofs.Outcome.Slips.{second_counts}
 
--- ---- For the caller. (`shape-answers` in Answers: at every fraction what is answered is the smaller of the curve and D·t + L.)
+-- ---- For the caller. (`shape_answers` in Answers: at every fraction what is answered is the smaller of the curve and D·t + L.)
 
 -- A curve obeys a link of rate D and longest frame L: at no fraction is it above D·t + L.
 abbrev pub Obeys : List Bucket → ℕ → ℕ → Type 0

@@ -1,5 +1,5 @@
 -- Wrong readings and wrong files that the contracts shut out. Each theorem takes what a slip would give back and finds that it is
--- no outcome. What is said of a list is said of a part of a table too, by `part-reads`.
+-- no outcome. What is said of a list is said of a part of a table too, by `part_reads`.
 -- Assumes nothing.
 use mathlib.Core.Path.{◌≡◌, sym, ◌∙◌, ap}
 use mathlib.Core.Logic.{◌≢◌}

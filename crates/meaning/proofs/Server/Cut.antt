@@ -66,7 +66,7 @@ slower_from s (j ∷ f) {k} m = wanted_or_not (leb j.rate s.rate) refl (λ n. fu
         ]
     wanted_or_not false t rest n = rest n
 
--- (R, B), B = R-as-T + M.
+-- (R, B), B = R·T + M.
 abbrev pub line_bucket : RateLatency → ℕ → Bucket
 line_bucket s m = record { rate = s.rate; burst = s.rate * s.latency + m }
 

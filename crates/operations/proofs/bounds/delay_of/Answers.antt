@@ -6,8 +6,8 @@ use Rattle.operations.proofs.bounds.delay_of.Goals as goal
 pub returns-then-carries_nothing : goal.returns-then-carries_nothing
 returns-then-carries_nothing c = search (delays, rules)
 
-pub rounded_up-requires-clause-a_bound : goal.rounded_up-requires-clause-a_bound
-rounded_up-requires-clause-a_bound c = search (delays, rules)
+pub rounded_up-requires-clause-dividend_fits : goal.rounded_up-requires-clause-dividend_fits
+rounded_up-requires-clause-dividend_fits c = search (delays, rules)
 
 pub overflow_add-result : goal.overflow_add-result
 overflow_add-result c = search (delays, rules)

@@ -12,8 +12,8 @@ least_from-requires-clause-tested c = search (delaying, rules)
 pub least_from-requires-clause-from_in_bounds : goal.least_from-requires-clause-from_in_bounds
 least_from-requires-clause-from_in_bounds c = search (delaying, rules)
 
-pub least_from-requires-clause-tick_bound : goal.least_from-requires-clause-tick_bound
-least_from-requires-clause-tick_bound c = search (delaying, rules)
+pub least_from-requires-clause-tick_fits : goal.least_from-requires-clause-tick_fits
+least_from-requires-clause-tick_fits c = search (delaying, rules)
 
 pub returns : goal.returns
 returns c = search (delaying, rules)

@@ -9,9 +9,9 @@ returns-then-code-ne0 c = search (delaying, rules)
 pub settled-answer-requires-clause-tested : goal.settled-answer-requires-clause-tested
 settled-answer-requires-clause-tested c = search (delaying, rules)
 
-pub settled-answer-requires-clause-latency_bound :
-    goal.settled-answer-requires-clause-latency_bound
-settled-answer-requires-clause-latency_bound c = search (delaying, rules)
+pub settled-answer-requires-clause-latency_fits :
+    goal.settled-answer-requires-clause-latency_fits
+settled-answer-requires-clause-latency_fits c = search (delaying, rules)
 
 pub returns-then-answer-ne0 : goal.returns-then-answer-ne0
 returns-then-answer-ne0 c = search (delaying, rules)
@@ -22,8 +22,8 @@ least_from-requires-clause-tested c = search (delaying, rules)
 pub least_from-requires-clause-from_in_bounds : goal.least_from-requires-clause-from_in_bounds
 least_from-requires-clause-from_in_bounds c = search (delaying, rules)
 
-pub least_from-requires-clause-tick_bound : goal.least_from-requires-clause-tick_bound
-least_from-requires-clause-tick_bound c = search (delaying, rules)
+pub least_from-requires-clause-tick_fits : goal.least_from-requires-clause-tick_fits
+least_from-requires-clause-tick_fits c = search (delaying, rules)
 
 pub held-requires : goal.held-requires
 held-requires c = search (delaying, rules)

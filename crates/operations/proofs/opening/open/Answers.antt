@@ -6,15 +6,15 @@ use Rattle.operations.proofs.opening.open.Goals as goal
 pub first_slow-first-requires-clause-tested : goal.first_slow-first-requires-clause-tested
 first_slow-first-requires-clause-tested c = search (opens, rules)
 
-pub first_slow-first-requires-clause-curve_bound :
-    goal.first_slow-first-requires-clause-curve_bound
-first_slow-first-requires-clause-curve_bound c = search (opens, rules)
+pub first_slow-first-requires-clause-bounded :
+    goal.first_slow-first-requires-clause-bounded
+first_slow-first-requires-clause-bounded c = search (opens, rules)
 
 pub excess-requires-clause-tested : goal.excess-requires-clause-tested
 excess-requires-clause-tested c = search (opens, rules)
 
-pub excess-requires-clause-rate_bound : goal.excess-requires-clause-rate_bound
-excess-requires-clause-rate_bound c = search (opens, rules)
+pub excess-requires-clause-rate_fits : goal.excess-requires-clause-rate_fits
+excess-requires-clause-rate_fits c = search (opens, rules)
 
 pub returns : goal.returns
 returns c = search (opens, rules)

@@ -7,11 +7,11 @@ use Rattle.operations.proofs.rated.residual.Goals as goal
 pub returns-then-code-ne0 : goal.returns-then-code-ne0
 returns-then-code-ne0 c = search (residuals, rules)
 
-pub rounded_up-requires-clause-a_bound : goal.rounded_up-requires-clause-a_bound
-rounded_up-requires-clause-a_bound c = (residual_ready _ c.cross-code.ensures c.if-code-ne0.false c.last_bucket-last.ensures).0
+pub rounded_up-requires-clause-dividend_fits : goal.rounded_up-requires-clause-dividend_fits
+rounded_up-requires-clause-dividend_fits c = (residual_ready _ c.cross-code.ensures c.if-code-ne0.false c.last_bucket-last.ensures).0
 
-pub rounded_up-requires-clause-le_b : goal.rounded_up-requires-clause-le_b
-rounded_up-requires-clause-le_b c =
+pub rounded_up-requires-clause-divisor_fits : goal.rounded_up-requires-clause-divisor_fits
+rounded_up-requires-clause-divisor_fits c =
     (residual_ready _ c.cross-code.ensures c.if-code-ne0.false c.last_bucket-last.ensures).1
 
 pub overflow_add-late : goal.overflow_add-late

@@ -16,8 +16,8 @@ least_from-requires-clause-tested c = search (value_outcomes, rules)
 pub least_from-requires-clause-from_in_bounds : goal.least_from-requires-clause-from_in_bounds
 least_from-requires-clause-from_in_bounds c = search (value_outcomes, rules)
 
-pub least_from-requires-clause-tick_bound : goal.least_from-requires-clause-tick_bound
-least_from-requires-clause-tick_bound c = search (value_outcomes, rules)
+pub least_from-requires-clause-tick_fits : goal.least_from-requires-clause-tick_fits
+least_from-requires-clause-tick_fits c = search (value_outcomes, rules)
 
 pub returns : goal.returns
 returns c = search (value_outcomes, rules)
