@@ -59,7 +59,7 @@ for row in re.findall(r"^\|(.*)\|$", laws, flags=re.M):
                 misplaced.append(f"{name} does not stand in {cells[-1]}")
 test("every theorem stands in the file that docs/LAWS.md names", misplaced or ([] if rows > 20 else ["no rows with files"]))
 
-# A group of names and the file that they stand in: `one`, `two` (outcome/Outcomes).
+# A group of names and the file that they stand in: `one`, `two` (Outcome/Outcomes).
 coverage = read("docs/COVERAGE.md")
 places = {os.path.basename(p)[:-len(".antt")]: text for p, text in specs.items() if p.startswith("crates/meaning/")}
 misplaced = []

@@ -61,7 +61,7 @@ not_large :
     (pairs : List ℕ) {answer : Bool} → length pairs ≤ 128 → Tells (AllWithin 1048576 1099511627776 (buckets pairs)) answer
     → not answer ≡ false → TooLarge (buckets pairs) → ⊥
 not_large pairs few t fits (inl many) = omega (arith, buckets_use pairs)
-not_large pairs {answer} few t fits (inr out_of_lem) = out_of_lem (t.yes_means (not-false answer fits))
+not_large pairs {answer} few t fits (inr out_of) = out_of (t.yes_means (not-false answer fits))
 
 module _ (pairs : List ℕ) {at room : ℕ} {table : List ℕ} where
   -- they do not come out even
