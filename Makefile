@@ -36,8 +36,8 @@ all: $(archive) $(route) $(screen)
 $(archive): $(proved) programs/archive
 	RT=$(RT) programs/archive
 
-$(route): $(proved) programs/build
-	RT=$(RT) programs/build
+$(route): $(proved) programs/route.c programs/build
+	RT=$(RT) CC=$(CC) programs/build
 
 $(screen): $(wildcard examples/screen/*.c examples/screen/*.h) $(headers) $(archive) Makefile
 	mkdir -p $(@D)

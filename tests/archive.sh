@@ -30,9 +30,9 @@ build_archive() { # proves what the library needs, and writes the archive
 
 build_route() { # proves what the program route needs, and writes target/bin/route
   built target/bin/route && return
-  need rt
+  need rt gcc
   rm -f target/bin/route
-  programs/build || give_up "the program route is not built"
+  CC=gcc programs/build || give_up "the program route is not built"
   [ -x target/bin/route ] || give_up "no program target/bin/route"
 }
 

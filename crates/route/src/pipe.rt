@@ -3,7 +3,7 @@
 ghost use Rattle.route.specs.Cited.{Fetched};
 
 use std::io;
-use std::io::{Error, ErrorKind, Read};
+use std::io::{Error, ErrorKind, Print, Read, Stdin};
 
 // A program ends, so it makes only so many calls: far more than one for each byte.
 const MOST_CALLS: usize = 100_000;
@@ -24,10 +24,10 @@ fn failed(error: &Error) -> bool {
 }
 
 // Reads standard input to the start of a buffer, until it is full or the input ends.
-pub(crate) fn fetch(rt: &impl io::Input, buffer: &mut [u8]) -> Input
+pub(crate) fn fetch(stdin: Stdin, buffer: &mut [u8]) -> Input
     ensures { Fetched buffer.new result }
 {
-    let mut reader = rt.reader();
+    let mut reader = stdin;
     let mut count = 0;
     for _ in 0..MOST_CALLS {
         if count == buffer.len() {
@@ -61,13 +61,13 @@ pub(crate) fn fetch(rt: &impl io::Input, buffer: &mut [u8]) -> Input
 }
 
 // Writes all of a text to standard output, or tells why that did not go well.
-pub(crate) fn send(rt: &impl Print, text: &[u8]) -> io::Result<()> {
+pub(crate) fn send(stdout: &impl Print, text: &[u8]) -> io::Result<()> {
     let mut count = 0;
     for _ in 0..MOST_CALLS {
         if count == text.len() {
             return Ok(());
         }
-        match rt.write_some(&text[count..]) {
+        match stdout.write_some(&text[count..]) {
             Ok(0) => return Err(Error::from(ErrorKind::WriteZero)),
             Ok(moved) => count += moved,
             Err(error) => {

@@ -6,7 +6,7 @@ use Rattle.meaning.proofs.Outcome.Bytes.{count_within}
 use Rattle.route.proofs.duchrelin_route_program.Goals as goal
 
 pub slice_bounds-text-end : goal.slice_bounds-text-end
-slice_bounds-text-end g c = omega (arith, count_within c.route-written.ensures)
+slice_bounds-text-end c = omega (arith, count_within c.route-written.ensures)
 
 pub slice_bounds-send-end : goal.slice_bounds-send-end
-slice_bounds-send-end g c = sym (length-take-le _ _ (omega (arith, count_within c.route-written.ensures)))
+slice_bounds-send-end c = sym (length-take-le _ _ (omega (arith, count_within c.route-written.ensures)))

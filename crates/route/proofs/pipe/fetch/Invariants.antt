@@ -4,4 +4,4 @@ use Rattle.std.proofs.Common.{◌≡◌, ◌≤◌, length}
 use Rattle.route.proofs.pipe.fetch.Given as goal
 
 abbrev pub invariant-loop : goal.invariant-loop
-invariant-loop g l = (length l.buffer ≡ length l.initial.buffer) × (l.count ≤ length l.buffer)
+invariant-loop l = (length l.buffer ≡ length l.initial.buffer) × (l.count ≤ length l.buffer)

@@ -7,8 +7,7 @@ mod pipe;
 ghost use Rattle.route.specs.Cited.{Status};
 
 use std::fmt::InlineText;
-use std::io::Error;
-use std::process::ExitCode;
+use std::io::{Eprint, Error, Stderr, Stdin, Stdout};
 
 // Where the route was answered, where it was refused, and where it could not be read or written.
 const ANSWERED: i32 = 0;
@@ -31,28 +30,29 @@ fn words(text: &str) -> &str {
 }
 
 // Writes a line to standard error: what failed, a colon and the error's words.
-fn complain(rt: &impl Eprint, what: &str, error: Error) {
+fn complain(stderr: &impl Eprint, what: &str, error: Error) {
     let text = InlineText::<128>::of(&error);
     let words = words(text.as_str());
-    let _ = eprintln!(rt; "{what}: {words}");
+    let _ = eprintln!(stderr; "{what}: {words}");
 }
 
 // Reports the route on standard input. Answers the program's exit status.
-pub fn duchrelin_route_program(rt: &(impl Input + Print + Eprint)) -> i32
+#[unsafe(no_mangle)]
+pub extern "C" fn duchrelin_route_program(stdin: Stdin, stdout: Stdout, stderr: Stderr) -> i32
     ensures { Status result }
 {
     let mut input = [0u8; INPUT_BYTES];
-    let got = pipe::fetch(rt, &mut input);
+    let got = pipe::fetch(stdin, &mut input);
     if let Err(error) = got.whole {
-        complain(rt, "route: standard input", error);
+        complain(&stderr, "route: standard input", error);
         return FAILED;
     }
     let count = got.count;
     let mut text = [0u8; TEXT_BYTES];
     let written = routes::route(&input[..count], &mut text);
     let bytes = written.bytes as usize;
-    if let Err(error) = pipe::send(rt, &text[..bytes]) {
-        complain(rt, "route: standard output", error);
+    if let Err(error) = pipe::send(&stdout, &text[..bytes]) {
+        complain(&stderr, "route: standard output", error);
         return FAILED;
     }
     // A report begins with the line of a hop, and a refusal with its own word.
@@ -60,9 +60,4 @@ pub fn duchrelin_route_program(rt: &(impl Input + Print + Eprint)) -> i32
         return REFUSED;
     }
     ANSWERED
-}
-
-// The program ends with that status.
-fn main(rt: HostRuntime) -> ExitCode {
-    ExitCode::from(duchrelin_route_program(&rt) as u8)
 }
