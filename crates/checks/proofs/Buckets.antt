@@ -11,6 +11,7 @@ use lib.ListN.{length, get_or, take, drop, length-drop, get_or-eq_default}
 use lib.Seq.{drop-cons}
 use Rattle.meaning.proofs.Lists.{buckets_use, curve_use}
 use Rattle.meaning.specs.Curve.{Bucket, ◌∈◌, buckets, flat, width, curve_of}
+use Rattle.meaning.specs.Server.{last}
 use Rattle.checks.specs.Cited.{nth}
 
 -- the bucket that is read at an index
@@ -120,6 +121,14 @@ module _ (l : List ℕ) {k : ℕ} where
   pub nth_is : k < length l / width → list_bucket l (width * k) ≡ nth (curve_of l) k
   unfolding curve_of
   nth_is h = sym (bucket_number l k _ (omega (arith, curve_count l)))
+
+-- the last bucket by its number
+pub last_numbered : (f : List Bucket) (n : ℕ) → n + 1 ≡ length f → nth f n ≡ last f
+unfolding last
+last_numbered [] n e = absurd (omega arith)
+last_numbered (k ∷ []) n e = let none : n ≡ 0 = omega arith in rw none
+last_numbered (k ∷ j ∷ f) zero e = absurd (omega arith)
+last_numbered (k ∷ j ∷ f) (suc n) e = last_numbered (j ∷ f) n (omega arith)
 
 -- from the bucket numbered k on there is that one, and then those from the next on
 pub left_from : (f : List Bucket) (k : ℕ) {here : Bucket} → k < length f → here ≡ nth f k → drop k f ≡ here ∷ drop (k + 1) f

@@ -1,7 +1,7 @@
 -- The tests for refusals: the lines of the table put together, in the order of their numbers, and what it says of a list that none holds.
 -- Assumes nothing.
 use mathlib.Core.Path.{◌≡◌, refl, sym, ◌∙◌, subst}
-use mathlib.Core.Logic.{inl, inr, ⊎_elim}
+use mathlib.Core.Logic.{◌⊎◌, inl, inr, ⊎_elim}
 use mathlib.Core.Bool.{Bool, true, false, not}
 use mathlib.Core.List.{List}
 use Prim.Native.Nat.{ℕ, ◌%◌, ◌^◌, ◌≤◌, ◌<◌, min}
@@ -47,18 +47,18 @@ module _ (numbers : ℕ) (l : List ℕ) (f : List Bucket) where
       refused_first {n = 6} (up_to_or (up_to_when LIST (lit≤ tt)) (up_to_when COUNT (lit≤ tt))) (from_when RANGE (lit≤ tt)) some v
 
   -- LIST comes first
-  list_refused : Uneven numbers l → Verdict (list_lines numbers l f) 4
+  list_refused : Uneven numbers l → Verdict (list_lines numbers l f) (number LIST)
   unfolding number
   list_refused x =
       short_refused (lit≤ tt)
       (refused_first {n = 4} (up_to_when LIST (lit≤ tt)) (from_when COUNT (lit≤ tt)) (lit≤ tt) (line_hit LIST x))
 
   -- the list is empty
-  pub list_empty : length l ≡ 0 → Verdict (list_lines numbers l f) 4
+  pub list_empty : length l ≡ 0 → Verdict (list_lines numbers l f) (number LIST)
   list_empty h = list_refused (inl h)
 
   -- it does not come out even
-  pub list_uneven : (length l % numbers ≡ 0 → ⊥) → Verdict (list_lines numbers l f) 4
+  pub list_uneven : (length l % numbers ≡ 0 → ⊥) → Verdict (list_lines numbers l f) (number LIST)
   list_uneven h = list_refused (inr h)
 
   module _ (some : length l ≡ 0 → ⊥) (even : length l % numbers ≡ 0) where
@@ -67,7 +67,7 @@ module _ (numbers : ℕ) (l : List ℕ) (f : List Bucket) where
     list_passed = line_miss (λ h. ⊎_elim some (λ odd. odd even) h)
 
     -- there are over 64 buckets
-    pub list_many : 64 < length f → Verdict (list_lines numbers l f) 5
+    pub list_many : 64 < length f → Verdict (list_lines numbers l f) (number COUNT)
     unfolding number
     list_many h = short_refused (lit≤ tt) (refused_then list_passed (line_hit COUNT h))
 
@@ -77,7 +77,7 @@ module _ (numbers : ℕ) (l : List ℕ) (f : List Bucket) where
       count_passed = refused_then list_passed (line_miss (λ h. omega arith))
 
       -- a rate or burst is out of range
-      pub list_out_of_range : not answer ≡ true → Verdict (list_lines numbers l f) 6
+      pub list_out_of_range : not answer ≡ true → Verdict (list_lines numbers l f) (number RANGE)
       unfolding number
       list_out_of_range e = refused_then count_passed (line_hit RANGE (t.no_means (not-true _ e)))
 
@@ -107,11 +107,11 @@ module _ (numbers : ℕ) (l : List ℕ) (f : List Bucket) where
 
 module _ (l : List ℕ) where
   -- the list is empty
-  pub raw_empty : length l ≡ 0 → Verdict (raw_lines l) 4
+  pub raw_empty : length l ≡ 0 → Verdict (raw_lines l) (number LIST)
   raw_empty = list_empty 2 l (buckets l)
 
   -- its length is odd
-  pub raw_odd : length l % 2 ≡ 1 → Verdict (raw_lines l) 4
+  pub raw_odd : length l % 2 ≡ 1 → Verdict (raw_lines l) (number LIST)
   raw_odd h = list_uneven 2 l (buckets l) (λ e. omega arith)
 
   module _ (some : length l ≡ 0 → ⊥) (even : length l % 2 ≡ 1 → ⊥) where
@@ -119,7 +119,7 @@ module _ (l : List ℕ) where
     evenly = omega (arith, even)
 
     -- there are over 64 buckets
-    pub raw_many : 128 < length l → Verdict (raw_lines l) 5
+    pub raw_many : 128 < length l → Verdict (raw_lines l) (number COUNT)
     raw_many h = list_many 2 l (buckets l) some evenly (omega (arith, buckets_use l, evenly))
 
     module _ (few : length l ≤ 128) {answer : Bool} (t : Tells (AllInRange (buckets l)) answer) where
@@ -127,7 +127,7 @@ module _ (l : List ℕ) where
       few_buckets = omega (arith, buckets_use l)
 
       -- a rate or burst is out of range
-      pub raw_out_of_range : not answer ≡ true → Verdict (raw_lines l) 6
+      pub raw_out_of_range : not answer ≡ true → Verdict (raw_lines l) (number RANGE)
       raw_out_of_range = list_out_of_range 2 l (buckets l) some evenly few_buckets t
 
       -- no line holds
@@ -164,15 +164,12 @@ module _ (l : List ℕ) {code : ℕ} (v : Verdict (raw_lines l) code) where
     list_accepted = subst (Verdict (list_lines width l (curve_of l))) zero_code (as_raw l v)
 
     -- it is not in normal form
-    pub curve_out_of_form : {answer : Bool} → Tells (NormalForm (curve_of l)) answer → not answer ≡ true → Verdict (curve_lines l) 7
-    unfolding number
-    curve_out_of_form t e = refused_then list_accepted (line_hit FORM (t.no_means (not-true _ e)))
+    pub curve_out_of_form : Tells (NormalForm (curve_of l)) false → Verdict (curve_lines l) (number FORM)
+    curve_out_of_form t = refused_then list_accepted (line_hit FORM (t.no_means refl))
 
     -- no line holds
-    pub curve_right : {answer : Bool} → Tells (NormalForm (curve_of l)) answer → not answer ≡ false → Verdict (curve_lines l) 0
-    curve_right t e = refused_then list_accepted (line_miss (λ out. out (t.yes_means (not-false _ e))))
-
-pub ruleset curve_line_rules = (curve_refused, curve_ranges, curve_out_of_form, curve_right)
+    pub curve_right : Tells (NormalForm (curve_of l)) true → Verdict (curve_lines l) 0
+    curve_right t = refused_then list_accepted (line_miss (λ out. out (t.yes_means refl)))
 
 -- What it says of a curve that no line holds:
 module _ (l : List ℕ) (clear : Clear (curve_lines l)) where
@@ -194,7 +191,7 @@ module _ (l : List ℕ) (clear : Clear (curve_lines l)) where
 -- ---- A tick, and a link's rate and longest frame.
 
 -- a tick of 2^40 or more
-pub tick_refused : {t : ℕ} → 1099511627776 ≤ t → Verdict (RANGE when (2 ^ 40 ≤ t)) 6
+pub tick_refused : {t : ℕ} → 1099511627776 ≤ t → Verdict (RANGE when (2 ^ 40 ≤ t)) (number RANGE)
 unfolding number
 tick_refused h = line_hit RANGE h
 
@@ -203,26 +200,21 @@ pub tick_right : {t : ℕ} → t < 1099511627776 → Verdict (RANGE when (2 ^ 40
 tick_right h = line_miss (λ over. omega arith)
 
 module _ {rate frame : ℕ} where
-  -- a link of rate 0
-  pub link_still : rate ≡ 0 → Verdict (link_line rate frame) 6
-  unfolding number
-  link_still h = line_hit RANGE (inl h)
-
-  -- a link of rate 2^20 or more
-  pub link_fast : 1048576 ≤ rate → Verdict (link_line rate frame) 6
-  unfolding number
-  link_fast h = line_hit RANGE (inr (inl h))
-
-  -- a frame of 2^40 bits or more
-  pub frame_long : 1099511627776 ≤ frame → Verdict (link_line rate frame) 6
-  unfolding number
-  frame_long h = line_hit RANGE (inr (inr h))
+  -- a link of rate 0, of rate 2^20 or more, or with a frame of 2^40 bits or more
+  pub link_refused :
+      (rate ≡ 0) ⊎ (((rate ≡ 0 → ⊥) × (1048576 ≤ rate)) ⊎ ((rate ≡ 0 → ⊥) × (rate < 1048576) × (1099511627776 ≤ frame)))
+      → Verdict (link_line rate frame) (number RANGE)
+  link_refused = elim [
+    | inl still ↦ line_hit RANGE (inl still)
+    | inr (inl fast) ↦ line_hit RANGE (inr (inl fast.1))
+    | inr (inr long) ↦ line_hit RANGE (inr (inr long.2))
+  ]
 
   -- a link with both in range
   pub link_right : (rate ≡ 0 → ⊥) → rate < 1048576 → frame < 1099511627776 → Verdict (link_line rate frame) 0
   link_right some slow short = accepted (link_clear (omega (arith, some)) slow short) refl
 
-pub ruleset number_lines = (tick_refused, tick_right, link_still, link_fast, frame_long, link_right)
+pub ruleset number_lines = (tick_refused, tick_right, link_refused, link_right)
 
 -- ---- The smaller of two codes.
 

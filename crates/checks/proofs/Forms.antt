@@ -2,6 +2,7 @@
 -- last and the buckets left decide about the whole list; each way out gives the answer that follows.
 -- Assumes nothing.
 use mathlib.Core.Path.{◌≡◌, sym, ◌∙◌, ap}
+use mathlib.Core.Logic.{◌⊎◌, inl, inr}
 use mathlib.Core.Bool.{Bool, true, false, ◌&&◌}
 use mathlib.Core.List.{List}
 use Prim.Native.Nat.{ℕ, ◌+◌, ◌-◌, ◌*◌, ◌^◌, ◌≤◌, ◌<◌}
@@ -127,4 +128,9 @@ module _ {f : List Bucket} {n x y k rate_before burst_before : ℕ} (w : Rising 
             decides = rw (lt-ltb _ _ falls, lt-ltb _ _ later) at one_crossing;
           }
 
-pub ruleset rising = (rise_none, rise_start, rise_rate, rise_burst, rise_crossing, rise_step, rise_by_y_fits, x_by_fall_fits, rise_end)
+    -- the rate does not fall or the burst does not rise
+    pub rise_neither :
+        (rate_before ≤ rate) ⊎ ((rate < rate_before) × (burst ≤ burst_before)) → Tells (NormalForm f) false
+    rise_neither = elim [ inl stays ↦ rise_rate stays | inr h ↦ rise_burst h.0 h.1 ]
+
+pub ruleset rising = (rise_none, rise_start, rise_neither, rise_crossing, rise_step, rise_by_y_fits, x_by_fall_fits, rise_end)

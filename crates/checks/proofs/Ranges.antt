@@ -5,15 +5,17 @@ use mathlib.Core.Path.{◌≡◌, refl, sym, subst}
 use mathlib.Core.Logic.{◌⊎◌, inl, inr}
 use mathlib.Core.Bool.{Bool, true, false, true≢false}
 use mathlib.Core.List.Memᴰ
-use mathlib.Core.List.{List, ◌∷◌}
-use Prim.Native.Nat.{ℕ, ◌+◌, ◌≤◌, ◌<◌}
+use mathlib.Core.List.{List, [], ◌∷◌}
+use Prim.Native.Nat.{ℕ, ◌+◌, ◌*◌, ◌/◌, ◌≤◌, ◌<◌}
 use native.Mathlib.Nat.{lt_of_not-le}
 use native.Mathlib.Omega.{arith}
 use lib.ListN.{length, get_or, drop}
 use Rattle.meaning.specs.Curve.{Bucket, ◌∈◌, buckets}
 use Rattle.meaning.specs.Refusal.{Within, AllWithin}
 use Rattle.checks.specs.Cited.{Tells}
+use Rattle.std.specs.Simd.{first_chunks}
 use Rattle.checks.proofs.Buckets.{list_bucket, buckets_next, buckets_end}
+use Rattle.checks.proofs.Pairs.{pair_numbers}
 
 -- a yes and a no
 pub tells_yes : {P : Type 0} → P → Tells P true
@@ -81,4 +83,34 @@ module _ {rates bursts : ℕ} {l : List ℕ} {i : ℕ} (w : Ranged rates bursts 
             → AllWithin rates bursts (list_bucket l i ∷ buckets (drop (i + 2) l))
         both all k m = split all k (Memᴰ.cases_cons m)
 
-pub ruleset ranging = (ranged_start, ranged_end, ranged_rate, ranged_burst, ranged_step)
+-- The same where the list is lent as pairs, of which n are passed.
+module _ {rates bursts : ℕ} {l : List ℕ} {n : ℕ} (w : Ranged rates bursts l (2 * n)) (pairs : List (List ℕ)) (count : length pairs ≡ length l / 2) where
+  -- none is left
+  pub paired_end : length pairs ≤ n → Tells (AllWithin rates bursts (buckets l)) true
+  paired_end h = ranged_end w (omega (arith, count))
+
+  module _ (are : pairs ≡ first_chunks 2 (length l / 2) l) (more : n < length pairs) where
+    left : 2 * n + 1 < length l
+    left = omega (arith, count)
+
+    here_is : (get_or (get_or pairs n []) 0 0 ≡ get_or l (2 * n) 0) × (get_or (get_or pairs n []) 1 0 ≡ get_or l (2 * n + 1) 0)
+    here_is = rw are (pair_numbers l (length l / 2) n (omega (arith, count)) (omega arith))
+
+    -- the pair at hand is out of its range
+    pub paired_over :
+        (rates ≤ get_or (get_or pairs n []) 0 0)
+        ⊎ ((get_or (get_or pairs n []) 0 0 < rates) × (bursts ≤ get_or (get_or pairs n []) 1 0))
+        → Tells (AllWithin rates bursts (buckets l)) false
+    paired_over = elim [
+      | inl h ↦ ranged_rate w left (rw (here_is.0) at h)
+      | inr h ↦ ranged_burst w left (rw (here_is.1) at (h.1))
+    ]
+
+    -- it is within
+    pub paired_step :
+        get_or (get_or pairs n []) 0 0 < rates → get_or (get_or pairs n []) 1 0 < bursts → Ranged rates bursts l (2 * (n + 1))
+    paired_step hr hb =
+        let e : 2 * (n + 1) ≡ 2 * n + 2 = omega arith in
+        rw e (ranged_step w left (rw (here_is.0) at hr) (rw (here_is.1) at hb))
+
+pub ruleset ranging = (ranged_start, paired_end, paired_over, paired_step)

@@ -1,15 +1,20 @@
-// The tests for refusals, of one operand each, and the smaller of two codes. Each takes any list and any number, and answers the
-// number of the refusal table that wins, or 0.
+// The tests for refusals, of one operand each, and which of two refusals wins. Each takes any list and any number.
 #![tactic(auto)]
 
 pub mod limits;
+mod refusal;
+mod tested;
 
-ghost use Rattle.std.specs.Prelude.{◌≡◌, length};
+ghost use Rattle.std.specs.Prelude.{◌≡◌, length, IfOk};
 ghost use Rattle.meaning.specs.CurveQuestions.{tick_line, link_line};
 ghost use Rattle.meaning.specs.Refusal.{Verdict, raw_lines, curve_lines, AllInRange, AllWithin};
 ghost use Rattle.meaning.specs.Curve.{buckets, curve_of, NormalForm};
 ghost use Rattle.meaning.specs.Computed.{earlier};
 ghost use Rattle.checks.specs.Cited.{Tells, bucket_of, nth};
+ghost use Rattle.checks.specs.Table.{code_of};
+
+pub use crate::refusal::Refusal;
+pub use crate::tested::Curve;
 
 // A bucket.
 #[derive(Clone, Copy)]
@@ -18,7 +23,7 @@ pub struct Bucket {
     pub burst: u64,
 }
 
-// The smaller of two codes, where 0 is none.
+// The smaller of two codes as C has them, where 0 is none.
 pub fn earlier(a: u64, b: u64) -> u64
     ensures { result ≡ earlier a b }
 {
@@ -28,25 +33,33 @@ pub fn earlier(a: u64, b: u64) -> u64
     if b == 0 {
         return a;
     }
-    if a <= b {
-        return a;
+    a.min(b)
+}
+
+// Two operands that are tested: both values, or of the refusals the one that wins.
+pub fn both<A: Copy, B: Copy>(
+    first: Result<A, Refusal>,
+    second: Result<B, Refusal>,
+) -> Result<(A, B), Refusal>
+    ensures code { code_of result ≡ earlier (code_of first) (code_of second) }
+    ensures values { IfOk result (λ p. (first ≡ Ok p.0) × (second ≡ Ok p.1)) }
+{
+    match (first, second) {
+        (Ok(a), Ok(b)) => Ok((a, b)),
+        (Err(a), Err(b)) => Err(a.min(b)),
+        (Err(a), Ok(_)) => Err(a),
+        (Ok(_), Err(b)) => Err(b),
     }
-    b
 }
 
 // Whether every rate is below `rates` and every burst below `bursts`.
 pub fn within(list: &[u64], rates: u64, bursts: u64) -> bool
     ensures { Tells (AllWithin rates bursts (buckets list.now)) result }
 {
-    let mut i = 0;
-    while i + 1 < list.len() {
-        if rates <= list[i] {
+    for &[rate, burst] in list.as_chunks::<2>().0 {
+        if rates <= rate || bursts <= burst {
             return false;
         }
-        if bursts <= list[i + 1] {
-            return false;
-        }
-        i += 2;
     }
     true
 }
@@ -82,92 +95,74 @@ fn in_form(curve: &[u64]) -> bool
     if count == 0 {
         return false;
     }
-    let first = bucket_at(curve, 0);
-    let mut rate_before = first.rate;
-    let mut burst_before = first.burst;
+    let mut before = bucket_at(curve, 0);
     let mut x = 0;
     let mut y = 1;
-    let mut k = 1;
-    while k < count {
+    for k in 1..count {
         let here = bucket_at(curve, k);
-        let rate = here.rate;
-        let burst = here.burst;
-        if rate_before <= rate {
+        if before.rate <= here.rate || here.burst <= before.burst {
             return false;
         }
-        if burst <= burst_before {
-            return false;
-        }
-        let rise = burst - burst_before;
-        let fall = rate_before - rate;
+        let rise = here.burst - before.burst;
+        let fall = before.rate - here.rate;
         if rise * y <= x * fall {
             return false;
         }
-        rate_before = rate;
-        burst_before = burst;
+        before = here;
         x = rise;
         y = fall;
-        k += 1;
     }
     true
 }
 
-// The refusal of a raw list of buckets, or 0.
-pub fn raw(list: &[u64]) -> u64
-    ensures { Verdict (raw_lines list.now) result }
+// Tests a raw list of buckets.
+pub fn raw(list: &[u64]) -> Result<(), Refusal>
+    ensures { Verdict (raw_lines list.now) (code_of result) }
 {
     let n = list.len();
     if n == 0 {
-        return limits::LIST;
+        return Err(Refusal::List);
     }
     if n % 2 == 1 {
-        return limits::LIST;
+        return Err(Refusal::List);
     }
-    if 128 < n {
-        return limits::COUNT;
+    if 2 * limits::BUCKETS < n {
+        return Err(Refusal::Count);
     }
     if !within(list, limits::RATE_END, limits::BURST_END) {
-        return limits::RANGE;
+        return Err(Refusal::Range);
     }
-    0
+    Ok(())
 }
 
-// The refusal of a curve, which is in normal form, or 0. (Its list has the numbers of a raw list.)
-pub fn curve(list: &[u64]) -> u64
-    ensures { Verdict (curve_lines list.now) result }
+// Tests a curve, which is in normal form. (Its list has the numbers of a raw list.)
+pub fn curve<'a>(list: &'a [u64]) -> Result<Curve<'a>, Refusal>
+    ensures verdict { Verdict (curve_lines list.now) (code_of result) }
+    ensures its_list { IfOk result (λ curve. curve.list ≡ list.entry) }
 {
-    let code = raw(list);
-    if code != 0 {
-        return code;
-    }
+    raw(list)?;
     if !in_form(list) {
-        return limits::FORM;
+        return Err(Refusal::Form);
     }
-    0
+    Ok(Curve { list })
 }
 
-// The refusal of a tick, or 0.
-pub fn tick(t: u64) -> u64
-    ensures { Verdict (tick_line t) result }
+// Tests a tick.
+pub fn tick(t: u64) -> Result<(), Refusal>
+    ensures { Verdict (tick_line t) (code_of result) }
 {
     if limits::TICK_END <= t {
-        return limits::RANGE;
+        return Err(Refusal::Range);
     }
-    0
+    Ok(())
 }
 
-// The refusal of a link's rate, which is 1 to 2^20-1, and of its longest frame, 0 to 2^40-1; or 0.
-pub fn link(rate: u64, frame: u64) -> u64
-    ensures { Verdict (link_line rate frame) result }
+// Tests a link's rate, which is 1 to 2^20-1, and its longest frame, 0 to 2^40-1.
+pub fn link(rate: u64, frame: u64) -> Result<(), Refusal>
+    ensures { Verdict (link_line rate frame) (code_of result) }
 {
-    if rate == 0 {
-        return limits::RANGE;
+    if rate == 0 || limits::RATE_END <= rate || limits::FRAME_END <= frame {
+        return Err(Refusal::Range);
     }
-    if limits::RATE_END <= rate {
-        return limits::RANGE;
-    }
-    if limits::FRAME_END <= frame {
-        return limits::RANGE;
-    }
-    0
+    Ok(())
 }

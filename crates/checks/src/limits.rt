@@ -1,24 +1,4 @@
-// The numbers of the refusal table, and the ends of ranges.
-pub const HEADER: u64 = 1;
-
-pub const LENGTH: u64 = 2;
-
-pub const PAD: u64 = 3;
-
-pub const LIST: u64 = 4;
-
-pub const COUNT: u64 = 5;
-
-pub const RANGE: u64 = 6;
-
-pub const FORM: u64 = 7;
-
-pub const UNBOUNDED: u64 = 8;
-
-pub const LARGE: u64 = 9;
-
-pub const ROOM: u64 = 10;
-
+// Sizes, and the ends of ranges.
 // A curve's list has two numbers for each bucket: its rate and its burst.
 pub const BUCKET_NUMBERS: usize = 2;
 

@@ -10,8 +10,5 @@ returns-then-a-eq0 c = search (smaller_code, rules)
 pub returns-then-b-eq0 : goal.returns-then-b-eq0
 returns-then-b-eq0 c = search (smaller_code, rules)
 
-pub returns-then-a-b : goal.returns-then-a-b
-returns-then-a-b c = search (smaller_code, rules)
-
 pub returns : goal.returns
 returns c = search (smaller_code, rules)

@@ -5,11 +5,8 @@ use Rattle.checks.proofs.in_form.Goals as goal
 pub loop-k-init : goal.loop-k-init
 loop-k-init c = search (rising, rules)
 
-pub returns-then-rate_before-rate : goal.returns-then-rate_before-rate
-returns-then-rate_before-rate c = search (rising, rules)
-
-pub returns-then-burst-burst_before : goal.returns-then-burst-burst_before
-returns-then-burst-burst_before c = search (rising, rules)
+pub returns-then-before-here : goal.returns-then-before-here
+returns-then-before-here c = search (rising, rules)
 
 pub overflow_mul-rise : goal.overflow_mul-rise
 overflow_mul-rise c = search (rising, rules)

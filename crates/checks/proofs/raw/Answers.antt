@@ -1,4 +1,4 @@
--- `raw` gives the refusal of a raw list: its tests stand in the order of the table's numbers.
+-- `raw` tests a raw list: its tests stand in the order of the table's numbers.
 -- Assumes nothing.
 use Rattle.checks.proofs.Checks.{raw_line_rules}
 use Rattle.std.proofs.Common.{rules}
@@ -10,8 +10,8 @@ returns-then-n-eq0 c = search (raw_line_rules, rules)
 pub returns-then-n-eq1 : goal.returns-then-n-eq1
 returns-then-n-eq1 c = search (raw_line_rules, rules)
 
-pub returns-then-n-gt128 : goal.returns-then-n-gt128
-returns-then-n-gt128 c = search (raw_line_rules, rules)
+pub returns-then-n : goal.returns-then-n
+returns-then-n c = search (raw_line_rules, rules)
 
 pub returns-then-not-within : goal.returns-then-not-within
 returns-then-not-within c = search (raw_line_rules, rules)

@@ -1,4 +1,4 @@
--- `tick` gives the refusal of a tick, by its one line.
+-- `tick` tests a tick, by its one line.
 -- Assumes nothing.
 use Rattle.checks.proofs.Checks.{number_lines}
 use Rattle.std.proofs.Common.{rules}
