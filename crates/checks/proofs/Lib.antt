@@ -3,5 +3,5 @@ pub mod Buckets
 pub mod Ranges
 pub mod Forms
 pub mod Checks
-mod Numbers
+pub mod Numbers
 pub mod Pairs

@@ -1,6 +1,7 @@
 -- The test of a server, and what comes of joining two: a refusal of either, a latency that is too large, or the joined server.
 -- Assumes nothing.
 use mathlib.Core.Path.{◌≡◌, refl, sym, ◌∙◌, ap, subst}
+use mathlib.Core.Logic.{◌⊎◌, inl, inr}
 use mathlib.Core.List.{[]}
 use Prim.Native.Nat.{ℕ, ◌+◌, ◌^◌, ◌≤◌, ◌<◌, min}
 use native.Mathlib.Omega.{arith}
@@ -24,20 +25,15 @@ use Rattle.servers.specs.Cited.{of_kind, numbers, Late, Tested}
 -- ---- The test of a server.
 
 module _ {rate latency : ℕ} where
-  -- it serves nothing
-  pub server_still : rate ≡ 0 → Tested (port rate latency) 6
-  unfolding number
-  server_still h = record { verdict = line_hit RANGE (λ r. omega (arith, r.rate_some)) }
-
-  -- its rate is out of range
-  pub server_fast : 1048576 ≤ rate → Tested (port rate latency) 6
-  unfolding number
-  server_fast h = record { verdict = line_hit RANGE (λ r. omega (arith, r.rate_fits)) }
-
-  -- its latency is
-  pub server_late : 1048576 ≤ latency → Tested (port rate latency) 6
-  unfolding number
-  server_late h = record { verdict = line_hit RANGE (λ r. omega (arith, r.latency_fits)) }
+  -- it serves nothing, or its rate or its latency is out of range
+  pub server_out :
+      (rate ≡ 0) ⊎ (((rate ≡ 0 → ⊥) × (1048576 ≤ rate)) ⊎ ((rate ≡ 0 → ⊥) × (rate < 1048576) × (1048576 ≤ latency)))
+      → Tested (port rate latency) (number RANGE)
+  server_out = elim [
+    | inl still ↦ record { verdict = line_hit RANGE (λ r. omega (arith, r.rate_some)) }
+    | inr (inl fast) ↦ record { verdict = line_hit RANGE (λ r. omega (arith, fast.1, r.rate_fits)) }
+    | inr (inr late) ↦ record { verdict = line_hit RANGE (λ r. omega (arith, late.2, r.latency_fits)) }
+  ]
 
   -- both are in range
   pub server_right : (rate ≡ 0 → ⊥) → rate < 1048576 → latency < 1048576 → Tested (port rate latency) 0
@@ -48,41 +44,18 @@ module _ {rate latency : ℕ} where
 
 module _ {latency : ℕ} where
   -- a pure delay's latency is out of range,
-  pub delay_late : 1048576 ≤ latency → Tested (pure_delay latency) 6
-  unfolding number
+  pub delay_late : 1048576 ≤ latency → Tested (pure_delay latency) (number RANGE)
   delay_late h = record { verdict = line_hit RANGE (λ r. omega arith) }
 
   -- or in range
   pub delay_right : latency < 1048576 → Tested (pure_delay latency) 0
   delay_right h = record { verdict = line_miss (λ out. out h) }
 
-pub ruleset server_line_rules = (server_still, server_fast, server_late, server_right, delay_late, delay_right)
+pub ruleset server_line_rules = (server_out, server_right, delay_late, delay_right)
 
 -- a server that no line refuses is in range
 pub server_ranged : (s : Server) → Clear (server_lines s) → ServerInRange s
 server_ranged s clear = server_stable s (λ out. clear RANGE (refl, out))
-
--- ---- A server of a known kind.
-
-module _ {k : Kind} {latency : ℕ} where
-  -- what is decided of a kind's numbers is decided of the kind
-  pub rated_decides : {rate code : ℕ} → k ≡ RateLatency rate latency → Tested (port rate latency) code → Tested (of_kind k) code
-  rated_decides e v = rw e v
-
-  pub delay_decides : {code : ℕ} → k ≡ PureDelay latency → Tested (pure_delay latency) code → Tested (of_kind k) code
-  delay_decides e v = rw e v
-
-pub ruleset deciding = (rated_decides, delay_decides)
-
--- and its numbers are those
-pub rated_numbers :
-    {k : Kind} {rate latency : ℕ} → k ≡ RateLatency rate latency → numbers 2 rate latency ≡ numbers_of (of_kind k)
-rated_numbers e = rw e
-
-pub delay_numbers : {k : Kind} {latency : ℕ} → k ≡ PureDelay latency → numbers 3 0 latency ≡ numbers_of (of_kind k)
-delay_numbers e = rw e
-
-pub ruleset telling = (rated_numbers, delay_numbers)
 
 -- ---- The server that numbers stand for.
 
@@ -202,7 +175,7 @@ module _ {s next : Server} {x y code : ℕ} (v : Tested s x) (w : Tested next y)
 
     -- the latencies added are out of range
     pub join_large :
-        {told : ℕ} {none : Server} → 1048576 ≤ latency → told ≡ 9 → none ≡ no_server → JoinOutcome s next told none
+        {told : ℕ} {none : Server} → 1048576 ≤ latency → told ≡ number LARGE → none ≡ no_server → JoinOutcome s next told none
     unfolding JoinOutcome number
     join_large past same is_none =
         rw (same, is_none)
@@ -222,5 +195,3 @@ module _ {s next : Server} {x y code : ℕ} (v : Tested s x) (w : Tested next y)
         ranged =
             joined_ranged s next (server_ranged s (clear_first clear)) (server_ranged next (clear_second clear))
             (omega (arith, ap (λ (x : Server). (numbers_of x).latency) is))
-
-pub ruleset joins = (late_first, late_second, join_refused, join_large, join_joined)

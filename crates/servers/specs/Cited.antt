@@ -1,10 +1,12 @@
 -- What the contracts of this crate's own functions cite, beside the definitions of the crate meaning.
 -- Assumes nothing.
-use Rattle.std.specs.Prelude.{◌≡◌, ℕ, ◌^◌, ◌<◌}
+use Rattle.std.specs.Prelude.{◌≡◌, ℕ, ◌^◌, ◌<◌, Result, Ok, Err}
 use Rattle.meaning.specs.Server as meant
 use Rattle.meaning.specs.Server.{Server, pure_delay, port, no_server, numbers_of}
 use Rattle.meaning.specs.Refusal.{Verdict}
 use Rattle.meaning.specs.ServerQuestions.{server_lines}
+use Rattle.checks.specs.Table.{code_of}
+use Rattle.checks.specs.declared.refusal.Refusal.{Refusal}
 use Rattle.servers.specs.declared.Kind.{Kind}
 use Rattle.servers.specs.declared.Kind.TheVariants.{RateLatency, PureDelay}
 use Rattle.servers.specs.declared.Server as held_server
@@ -35,6 +37,16 @@ pub record Late (s : Server) : Type 0 where
 -- The code of a server's test.
 pub record Tested (s : Server) (code : ℕ) : Type 0 where
   pub verdict : Verdict (server_lines s) code
+
+-- The server of an answer; of a refusal none.
+abbrev pub server_told : Result held_server.Server Refusal → Server
+server_told (Ok s) = server_of s
+server_told (Err r) = no_server
+
+-- An answer as C gets it: its code, and its server.
+pub record Tells (answer : Result held_server.Server Refusal) (told : ServerAnswer) : Type 0 where
+  pub code_is : told.code ≡ code_of answer
+  pub server_is : server_of told.server ≡ server_told answer
 
 -- A refusal with its number: no server.
 pub record Refusing (code : ℕ) (answer : ServerAnswer) : Type 0 where

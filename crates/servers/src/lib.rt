@@ -1,12 +1,13 @@
 // A server: the struct that stands for one everywhere, its test, how it joins the next one, and its numbers.
 #![tactic(auto)]
 
-ghost use Rattle.std.specs.Prelude.{◌≡◌, min};
+ghost use Rattle.std.specs.Prelude.{◌≡◌};
 ghost use Rattle.meaning.specs.Server.{port, pure_delay, numbers_of, server_named, join};
 ghost use Rattle.meaning.specs.ServerQuestions.{JoinOutcome};
-ghost use Rattle.servers.specs.Cited.{of_kind, server_of, numbers_held, numbers, Late, Tested, Refusing};
+ghost use Rattle.checks.specs.Table.{code_of};
+ghost use Rattle.servers.specs.Cited.{of_kind, server_of, server_told, numbers_held, numbers, Late, Tested, Refusing, Tells};
 
-use checks::limits;
+use checks::{Refusal, limits};
 
 // The kinds of servers by their numbers.
 pub const RATE_LATENCY: u64 = 2;
@@ -14,71 +15,96 @@ pub const RATE_LATENCY: u64 = 2;
 pub const PURE_DELAY: u64 = 3;
 
 // What a server is: rate-latency, with its two numbers, or a pure delay, with one.
-#[derive(Clone, Copy)]
+#[derive(Clone, Copy, Debug, PartialEq, Eq)]
 pub enum Kind {
     RateLatency { rate: u64, latency: u64 },
     PureDelay { latency: u64 },
 }
 
 // A switch port, which serves `rate` bits a tick once `latency` ticks are over; or a device that only delays.
-#[derive(Clone, Copy)]
+#[derive(Clone, Copy, Debug, PartialEq, Eq)]
 pub struct Server {
     pub kind: Kind,
 }
 
-// A code, 0 for an answer, and the server, rate-latency (0, 0) for a refusal.
-#[derive(Clone, Copy)]
+// A server as C gets it: a code, 0 for an answer, and the server, rate-latency (0, 0) for a refusal.
+#[derive(Clone, Copy, Debug, PartialEq, Eq)]
 pub struct ServerAnswer {
     pub code: u64,
     pub server: Server,
 }
 
 // A server as a caller passes it and gets it. A pure delay has rate 0.
-#[derive(Clone, Copy)]
+#[derive(Clone, Copy, Debug, PartialEq, Eq)]
 pub struct Numbers {
     pub kind: u64,
     pub rate: u64,
     pub latency: u64,
 }
 
-impl Server {
-    // The refusal of the server, or 0.
-    pub fn refusal(self) -> u64
-        ensures { Tested (server_of self) result }
+impl Kind {
+    // The latency of either kind.
+    fn latency(self) -> u64
+        ensures { result ≡ (numbers_of (of_kind self)).latency }
     {
-        let kind = self.kind;
-        match kind {
+        match self {
+            Kind::RateLatency { latency, .. } | Kind::PureDelay { latency } => latency,
+        }
+    }
+
+    // The joined kind of two servers whose latencies are in range.
+    fn join(self, next: Kind) -> Kind
+        requires first_late { Late (of_kind self) }
+        requires second_late { Late (of_kind next) }
+        ensures { of_kind result ≡ join (of_kind self) (of_kind next) }
+    {
+        let latency = self.latency() + next.latency();
+        match (self, next) {
+            (Kind::RateLatency { rate, .. }, Kind::RateLatency { rate: other, .. }) => {
+                Kind::RateLatency {
+                    rate: rate.min(other),
+                    latency,
+                }
+            }
+            (Kind::RateLatency { rate, .. }, Kind::PureDelay { .. }) => {
+                Kind::RateLatency { rate, latency }
+            }
+            (Kind::PureDelay { .. }, Kind::RateLatency { rate, .. }) => {
+                Kind::RateLatency { rate, latency }
+            }
+            (Kind::PureDelay { .. }, Kind::PureDelay { .. }) => Kind::PureDelay { latency },
+        }
+    }
+}
+
+impl Server {
+    // Tests the server.
+    pub fn refusal(self) -> Result<(), Refusal>
+        ensures { Tested (server_of self) (code_of result) }
+    {
+        match self.kind {
             Kind::RateLatency { rate, latency } => rated_refusal(rate, latency),
             Kind::PureDelay { latency } => delay_refusal(latency),
         }
     }
 
     // The server that joins the next one: the smaller of their rates, the latencies added; of two pure delays, a pure delay.
-    pub fn join(self, next: Server) -> ServerAnswer
-        ensures { JoinOutcome (server_of self) (server_of next) result.code (server_of result.server) }
+    pub fn join(self, next: Server) -> Result<Server, Refusal>
+        ensures { JoinOutcome (server_of self) (server_of next) (code_of result) (server_told result) }
     {
-        let code = checks::earlier(self.refusal(), next.refusal());
-        if code != 0 {
-            return refused(code);
+        checks::both(self.refusal(), next.refusal())?;
+        let kind = self.kind.join(next.kind);
+        if limits::LATENCY_END <= kind.latency() {
+            return Err(Refusal::Large);
         }
-        let first = self.kind;
-        let second = next.kind;
-        let kind = joined(first, second);
-        if limits::LATENCY_END <= latency_of(kind) {
-            return refused(limits::LARGE);
-        }
-        ServerAnswer {
-            code: 0,
-            server: Server { kind },
-        }
+        Ok(Server { kind })
     }
 
     // Its numbers.
     pub fn numbers(self) -> Numbers
         ensures { numbers_held result ≡ numbers_of (server_of self) }
     {
-        let kind = self.kind;
-        match kind {
+        match self.kind {
             Kind::RateLatency { rate, latency } => Numbers {
                 kind: RATE_LATENCY,
                 rate,
@@ -89,6 +115,18 @@ impl Server {
                 rate: 0,
                 latency,
             },
+        }
+    }
+}
+
+// The answer of a question that a server answers, as C gets it.
+impl From<Result<Server, Refusal>> for ServerAnswer {
+    ghost from_gives = { Tells };
+
+    fn from(answer: Result<Server, Refusal>) -> ServerAnswer {
+        match answer {
+            Ok(server) => ServerAnswer { code: 0, server },
+            Err(refusal) => refused(refusal.into()),
         }
     }
 }
@@ -115,87 +153,32 @@ pub fn pure_delay(latency: u64) -> Server
 pub fn named(kind: u64, rate: u64, latency: u64) -> Server
     ensures { server_of result ≡ server_named (numbers kind rate latency) }
 {
-    if kind == RATE_LATENCY {
-        return rated(rate, latency);
-    }
-    if kind != PURE_DELAY {
-        return rated(0, 0);
-    }
-    if rate != 0 {
-        return pure_delay(limits::LATENCY_END);
-    }
-    pure_delay(latency)
-}
-
-// The refusal of a rate-latency server, or 0.
-pub fn rated_refusal(rate: u64, latency: u64) -> u64
-    ensures { Tested (port rate latency) result }
-{
-    if rate == 0 {
-        return limits::RANGE;
-    }
-    if limits::RATE_END <= rate {
-        return limits::RANGE;
-    }
-    if limits::LATENCY_END <= latency {
-        return limits::RANGE;
-    }
-    0
-}
-
-// The refusal of a pure delay, or 0.
-pub fn delay_refusal(latency: u64) -> u64
-    ensures { Tested (pure_delay latency) result }
-{
-    if limits::LATENCY_END <= latency {
-        return limits::RANGE;
-    }
-    0
-}
-
-// The latency of either kind.
-fn latency_of(kind: Kind) -> u64
-    ensures { result ≡ (numbers_of (of_kind kind)).latency }
-{
     match kind {
-        Kind::RateLatency { rate: _, latency } => latency,
-        Kind::PureDelay { latency } => latency,
+        RATE_LATENCY => rated(rate, latency),
+        PURE_DELAY if rate == 0 => pure_delay(latency),
+        PURE_DELAY => pure_delay(limits::LATENCY_END),
+        _ => rated(0, 0),
     }
 }
 
-// The joined kind of two servers whose latencies are in range.
-fn joined(first: Kind, second: Kind) -> Kind
-    requires first_late { Late (of_kind first) }
-    requires second_late { Late (of_kind second) }
-    ensures { of_kind result ≡ join (of_kind first) (of_kind second) }
+// Tests a rate-latency server.
+pub fn rated_refusal(rate: u64, latency: u64) -> Result<(), Refusal>
+    ensures { Tested (port rate latency) (code_of result) }
 {
-    let latency = latency_of(first) + latency_of(second);
-    match first {
-        Kind::RateLatency { rate, latency: _ } => match second {
-            Kind::RateLatency {
-                rate: other,
-                latency: _,
-            } => Kind::RateLatency {
-                rate: smaller(rate, other),
-                latency,
-            },
-            Kind::PureDelay { latency: _ } => Kind::RateLatency { rate, latency },
-        },
-        Kind::PureDelay { latency: _ } => match second {
-            Kind::RateLatency { rate, latency: _ } => Kind::RateLatency { rate, latency },
-            Kind::PureDelay { latency: _ } => Kind::PureDelay { latency },
-        },
+    if rate == 0 || limits::RATE_END <= rate || limits::LATENCY_END <= latency {
+        return Err(Refusal::Range);
     }
+    Ok(())
 }
 
-// The smaller of two numbers.
-fn smaller(a: u64, b: u64) -> u64
-    ensures { result ≡ min a b }
+// Tests a pure delay.
+pub fn delay_refusal(latency: u64) -> Result<(), Refusal>
+    ensures { Tested (pure_delay latency) (code_of result) }
 {
-    if a <= b {
-        return a;
+    if limits::LATENCY_END <= latency {
+        return Err(Refusal::Range);
     }
-    b
+    Ok(())
 }
 
 // A refusal with its number, and no server.
