@@ -11,7 +11,7 @@ use lib.Dec.{lit≤}
 use lib.ListN.{length, take, length-take}
 use lib.Seq.{take_all}
 use Rattle.meaning.specs.Curve.{Bucket, buckets, flat, list_of}
-use Rattle.meaning.specs.Refusal.{LIST, number, Clear, AllWithin, TooLarge, Uneven, over, Question, Outcome, part, PartOutcome}
+use Rattle.meaning.specs.Refusal.{LIST, LARGE, ROOM, number, Clear, AllWithin, TooLarge, Uneven, over, Question, Outcome, part, PartOutcome}
 use Rattle.meaning.proofs.Lists.{buckets_use, buckets_flat, flat_length}
 use Rattle.meaning.proofs.Order.{le_or_lt}
 use Rattle.meaning.proofs.Outcome.Outcomes.{Single, Same, one_part_outcome, up_to_when, line_hit, three_parts, refuse_in_part, too_large, no_room, written_out, asked_so_in_part}
@@ -65,27 +65,29 @@ not_large pairs {answer} few t fits (inr out_of) = out_of (t.yes_means (not-fals
 
 module _ (pairs : List ℕ) {at room : ℕ} {table : List ℕ} where
   -- they do not come out even
-  uneven : Uneven 2 pairs → PartOutcome (delivering pairs) at room table table 4 0
+  uneven : Uneven 2 pairs → PartOutcome (delivering pairs) at room table table (number LIST) 0
   unfolding delivering number
   uneven h = refuse_in_part (delivering pairs) at room table (up_to_when LIST (lit≤ tt)) (lit≤ tt) (line_hit LIST h)
 
   -- there is none
-  pub delivered_none : length pairs ≡ 0 → PartOutcome (delivering pairs) at room table table 4 0
+  pub delivered_none : length pairs ≡ 0 → PartOutcome (delivering pairs) at room table table (number LIST) 0
   delivered_none h = uneven (inl h)
 
   -- there is half of one
-  pub delivered_half : length pairs % 2 ≡ 1 → PartOutcome (delivering pairs) at room table table 4 0
+  pub delivered_half : length pairs % 2 ≡ 1 → PartOutcome (delivering pairs) at room table table (number LIST) 0
   delivered_half h = uneven (inr (λ e. omega arith))
 
   module _ (some : length pairs ≡ 0 → ⊥) (even : length pairs % 2 ≡ 1 → ⊥) where
     -- there are over 64
-    pub delivered_many : 128 < length pairs → PartOutcome (delivering pairs) at room table table 9 0
+    pub delivered_many : 128 < length pairs → PartOutcome (delivering pairs) at room table table (number LARGE) 0
+    unfolding number
     delivered_many h =
         untouched (too_large (delivering pairs) _ (clear pairs some even) (delivery_right pairs) (inl (omega (arith, buckets_use pairs, evenly pairs some even))))
 
     module _ (few : length pairs ≤ 128) {answer : Bool} (t : Tells (AllWithin 1048576 1099511627776 (buckets pairs)) answer) where
       -- one is out of range
-      pub delivered_large : not answer ≡ true → PartOutcome (delivering pairs) at room table table 9 0
+      pub delivered_large : not answer ≡ true → PartOutcome (delivering pairs) at room table table (number LARGE) 0
+      unfolding number
       delivered_large n =
           untouched (too_large (delivering pairs) _ (clear pairs some even) (delivery_right pairs) (inr (t.no_means (not-true answer n))))
 
@@ -93,7 +95,8 @@ module _ (pairs : List ℕ) {at room : ℕ} {table : List ℕ} where
           (fits : not answer ≡ false) {after : List ℕ} {written : Bool} (p : Placed pairs at room table after written)
         where
           -- the part is too short
-          pub delivered_short : not written ≡ true → PartOutcome (delivering pairs) at room table after 10 0
+          pub delivered_short : not written ≡ true → PartOutcome (delivering pairs) at room table after (number ROOM) 0
+          unfolding number
           delivered_short n =
               rw (p.stays (not-true written n))
               (untouched
@@ -148,6 +151,7 @@ module _
 
       -- the first 65 of more are too many as well
       cut_short : 64 < length f → PartOutcome (delivering (flat (take 65 f))) at room table after code count → PartOutcome ask at room table after code count
+      unfolding number
       cut_short many o =
           let long : length (flat (take 65 f)) ≡ 130 = omega (arith, flat_length (take 65 f), length-take 65 f) in
           let same =

@@ -12,7 +12,7 @@ use lib.Dec.{lit≤}
 use lib.ListN.{length, take}
 use Rattle.meaning.specs.Curve.{buckets}
 use Rattle.meaning.specs.Computed.{normal}
-use Rattle.meaning.specs.Refusal.{LIST, RANGE, number, ◌when◌, Clear, Verdict, AllWithin, Uneven, PartOutcome}
+use Rattle.meaning.specs.Refusal.{LIST, RANGE, LARGE, number, ◌when◌, Clear, Verdict, AllWithin, Uneven, PartOutcome}
 use Rattle.meaning.proofs.Order.{not_apart}
 use Rattle.meaning.proofs.Curve.Unique.{normal_of_unique}
 use Rattle.meaning.proofs.Curve.Normal.{normal_is}
@@ -28,16 +28,16 @@ use Rattle.meaning.proofs.Lists.{buckets_use}
 
 module _ (raw : List ℕ) where
   -- they do not come out even
-  uneven : Uneven 2 raw → Verdict (settling raw).operands 4
+  uneven : Uneven 2 raw → Verdict (settling raw).operands (number LIST)
   unfolding settling number
   uneven h = refused_first {n = 4} (up_to_when LIST (lit≤ tt)) (from_when RANGE (lit≤ tt)) (lit≤ tt) (line_hit LIST h)
 
   -- there is no bucket
-  pub refused_empty : length raw ≡ 0 → Verdict (settling raw).operands 4
+  pub refused_empty : length raw ≡ 0 → Verdict (settling raw).operands (number LIST)
   refused_empty h = uneven (inl h)
 
   -- there is half of one
-  pub refused_half : length raw % 2 ≡ 1 → Verdict (settling raw).operands 4
+  pub refused_half : length raw % 2 ≡ 1 → Verdict (settling raw).operands (number LIST)
   refused_half h = uneven (inr (λ e. omega arith))
 
   module _
@@ -48,7 +48,7 @@ module _ (raw : List ℕ) where
       list_passed = line_miss (λ h. ⊎_elim some (λ odd. odd (omega (arith, even))) h)
 
       -- one is too wide
-      pub refused_range : not answer ≡ true → Verdict (settling raw).operands 6
+      pub refused_range : not answer ≡ true → Verdict (settling raw).operands (number RANGE)
       unfolding settling number
       refused_range n = refused_then list_passed (line_hit RANGE (t.no_means (not-true answer n)))
 
@@ -104,7 +104,8 @@ module _ (raw : List ℕ) where
 
 module _ (raw : List ℕ) {at room : ℕ} {table : List ℕ} (a : Accepted raw) {out : List ℕ} {count : ℕ} (c : Chose (buckets raw) out count) where
   -- the normal form has too many buckets
-  pub settled_many : 64 < count → PartOutcome (settling raw) at room table table 9 0
+  pub settled_many : 64 < count → PartOutcome (settling raw) at room table table (number LARGE) 0
+  unfolding number
   settled_many h = untouched (too_large (settling raw) _ a.clear (right raw a) (inl (c.over_many h)))
 
   -- what comes of handing the buckets over comes of settling

@@ -5,57 +5,47 @@
 mod candidates;
 pub mod deliver;
 mod ends;
+mod part;
 mod search;
 
 ghost use Rattle.std.specs.Prelude.{◌≡◌};
-ghost use Rattle.meaning.specs.Refusal.{Verdict, PartOutcome};
+ghost use Rattle.meaning.specs.Refusal.{Verdict};
+ghost use Rattle.checks.specs.Table.{code_of};
 ghost use Rattle.settle.specs.Cited.{settling};
+ghost use Rattle.settle.specs.Parts.{Answers};
 
 use crate::deliver::deliver;
+pub use crate::part::Part;
 use crate::search::choose;
-use checks::limits;
+use checks::{Refusal, limits};
 
-// A code, 0 for an answer, and the number of buckets, 0 for a refusal.
-#[derive(Clone, Copy)]
-pub struct Answer {
-    pub code: u64,
-    pub count: u64,
-}
-
-// The refusal of raw buckets, or 0.
-fn refusal(raw: &[u64]) -> u64
-    ensures { Verdict (settling raw.now).operands result }
+// Tests raw buckets.
+fn refusal(raw: &[u64]) -> Result<(), Refusal>
+    ensures { Verdict (settling raw.now).operands (code_of result) }
 {
     let n = raw.len();
     if n == 0 {
-        return limits::LIST;
+        return Err(Refusal::List);
     }
     if n % 2 == 1 {
-        return limits::LIST;
+        return Err(Refusal::List);
     }
     if !checks::within(raw, limits::RATE_END, limits::RAW_BURST_END) {
-        return limits::RANGE;
+        return Err(Refusal::Range);
     }
-    0
+    Ok(())
 }
 
-// The normal form of the raw buckets, in the part of the table that is the `room` numbers from `at`, as far as the table has
-// them.
-pub fn settle(raw: &[u64], table: &mut [u64], at: usize, room: usize) -> Answer
-    ensures { PartOutcome (settling raw.now) at room table.old table.new result.code result.count }
+// The normal form of raw buckets, in a part of a table. Answers how many buckets it has.
+pub fn settle(raw: &[u64], table: &mut [u64], part: Part) -> Result<usize, Refusal>
+    ensures { Answers (settling raw.now) part table.old table.new result }
 {
-    let code = refusal(raw);
-    if code != 0 {
-        return Answer { code, count: 0 };
-    }
+    refusal(raw)?;
     let mut chosen = [0u64; 128];
     let count = choose(raw, &mut chosen);
     if limits::BUCKETS < count {
-        return Answer {
-            code: limits::LARGE,
-            count: 0,
-        };
+        return Err(Refusal::Large);
     }
     let end = 2 * count;
-    deliver(&chosen[..end], table, at, room)
+    deliver(&chosen[..end], table, part)
 }

@@ -10,14 +10,14 @@ returns-then-n-eq0 c = search (delivers, rules)
 pub returns-then-n-eq1 : goal.returns-then-n-eq1
 returns-then-n-eq1 c = search (delivers, rules)
 
-pub returns-then-n-gt128 : goal.returns-then-n-gt128
-returns-then-n-gt128 c = search (delivers, rules)
+pub returns-then-n : goal.returns-then-n
+returns-then-n c = search (delivers, rules)
 
 pub returns-then-not-within : goal.returns-then-not-within
 returns-then-not-within c = search (delivers, rules)
 
-pub returns-then-not-place : goal.returns-then-not-place
-returns-then-not-place c = search (delivers, rules)
+pub returns-then-not-take : goal.returns-then-not-take
+returns-then-not-take c = search (delivers, rules)
 
 pub returns : goal.returns
 returns c = search (delivers, rules)
