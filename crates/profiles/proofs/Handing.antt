@@ -3,11 +3,11 @@
 use mathlib.Core.Path.{◌≡◌, refl, sym, ◌∙◌}
 use mathlib.Core.Bool.{Bool, true, false, not}
 use mathlib.Core.Logic.{inl, inr}
-use mathlib.Core.List.{List}
+use mathlib.Core.List.{List, ◌++◌}
 use Prim.Native.Nat.{ℕ, ◌^◌, ◌≤◌, ◌<◌}
 use native.Mathlib.Omega.{arith}
 use lib.Dec.{lit≤}
-use lib.ListN.{length, take}
+use lib.ListN.{length, take, drop}
 use borrow.Author.Tests.{not-true, not-false}
 use Rattle.meaning.specs.Curve.{curve_of}
 use Rattle.meaning.specs.Server.{Server, Numbers, numbers_of}
@@ -40,8 +40,10 @@ module _ (bytes : List ℕ) {before : List ℕ} where
   handed_short short = no_room_bytes (handing bytes) before (λ r h. h) refl short
 
   -- they are written
-  pub handed : {after : List ℕ} → length bytes ≤ length before → after ≡ over bytes before → BytesOutcome (handing bytes) before after 0 (length bytes)
-  unfolding handing
+  pub handed :
+      {copied : List ℕ} → length bytes ≤ length before → copied ≡ bytes
+      → BytesOutcome (handing bytes) before (copied ++ drop (length bytes) before) 0 (length bytes)
+  unfolding handing over
   handed room e = rw e (filled_bytes (handing bytes) before (λ r h. h) refl (single_handing bytes) room)
 
 pub ruleset hands = (handed_short, handed)

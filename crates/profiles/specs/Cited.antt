@@ -19,11 +19,6 @@ pub record InFile (file : List ℕ) (at width : ℕ) : Type 0 where
   pub near : at ≤ 4096
   pub narrow : width ≤ 40
 
--- A byte as a number.
-pub record Widened (byte number : ℕ) : Type 0 where
-  pub is : number ≡ byte
-  pub small : number < 256
-
 -- ---- The frame of a file.
 
 -- How many buckets a curve's file has, by its count.

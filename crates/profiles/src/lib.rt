@@ -5,7 +5,6 @@ mod bits;
 mod frame;
 mod packing;
 mod reader;
-mod writer;
 
 ghost use Rattle.std.specs.Prelude.{◌≡◌};
 ghost use Rattle.meaning.specs.Profile.{Known, edition_of, kind_in, bytes_taken, ReadOutcome, ReadPartOutcome, WriteCurveOutcome, WriteServerOutcome};
@@ -162,7 +161,7 @@ pub fn hand_over(bytes: &[u8], buffer: &mut [u8]) -> Written
             bytes: 0,
         };
     }
-    writer::fill(bytes, buffer);
+    buffer[..bytes.len()].copy_from_slice(bytes);
     Written {
         code: 0,
         bytes: bytes.len() as u64,
