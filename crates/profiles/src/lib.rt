@@ -182,9 +182,8 @@ pub fn write_curve(edition: u64, curve: &[u64], buffer: &mut [u8]) -> Written
     if code != 0 {
         return Written { code, bytes: 0 };
     }
-    let mut bytes = [0u8; 482];
-    let count = packing::pack_curve(edition, curve, &mut bytes);
-    hand_over(&bytes[..count], buffer)
+    let writer = packing::pack_curve(edition, curve);
+    hand_over(writer.bytes(), buffer)
 }
 
 // Writes a server as a file of an edition, to the start of a lent buffer.
@@ -202,7 +201,6 @@ pub fn write_server(edition: u64, server: Server, buffer: &mut [u8]) -> Written
     if code != 0 {
         return Written { code, bytes: 0 };
     }
-    let mut bytes = [0u8; 6];
-    let count = packing::pack_server(edition, server, &mut bytes);
-    hand_over(&bytes[..count], buffer)
+    let writer = packing::pack_server(edition, server);
+    hand_over(writer.bytes(), buffer)
 }
