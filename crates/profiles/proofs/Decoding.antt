@@ -23,61 +23,83 @@ take_two l n a b h =
     ∙ ap (λ (m : List ℕ). m ++ b ∷ []) (take-suc-set l n a (omega arith))
     ∙ append_snoc (take n l) a (b ∷ []))
 
--- The first k buckets are decoded.
-pub record Decoding (file : List ℕ) (count : ℕ) (pairs : List ℕ) (k : ℕ) : Type 0 where
+-- The first k buckets are decoded, and the file is read up to the next.
+pub record Decoding (file : List ℕ) (count : ℕ) (pairs held : List ℕ) (at k : ℕ) : Type 0 where
   pub holds : Holds file count
   pub long : length pairs ≡ 128
   pub sofar : k ≤ count
+  pub same : held ≡ file
+  pub place : at ≡ 14 + 60 * k
   pub done : Decoded file k pairs
 
 -- none is yet
-pub decoding_start : {file : List ℕ} {count : ℕ} {pairs : List ℕ} → Holds file count → length pairs ≡ 128 → Decoding file count pairs 0
+pub decoding_start :
+    {file : List ℕ} {count : ℕ} {pairs held : List ℕ} {at : ℕ} → Holds file count → length pairs ≡ 128 → held ≡ file → at ≡ 14
+    → Decoding file count pairs held at 0
 unfolding buckets_in flat
-decoding_start h long = record { holds = h; long = long; sofar = omega arith; done = record { is = refl } }
+decoding_start h long e e' =
+    record { holds = h; long = long; sofar = omega arith; same = e; place = e'; done = record { is = refl } }
 
-module _ {file : List ℕ} {count : ℕ} {pairs : List ℕ} {k : ℕ} (w : Decoding file count pairs k) where
+module _ {file : List ℕ} {count : ℕ} {pairs held : List ℕ} {at k : ℕ} (w : Decoding file count pairs held at k) where
   module _ (more : k < count) where
-    -- the next rate lies in the file,
-    pub rate_inside : InFile file (14 + 60 * k) 20
+    -- the next rate lies in the file
+    pub rate_inside : InFile held at 20
     rate_inside =
-        record { inside = omega (arith, w.holds.inside); near = omega (arith, w.holds.few); narrow = lit≤ tt }
+        record {
+          inside = rw w.same (omega (arith, w.place, w.holds.inside));
+          near = omega (arith, w.place, w.holds.few);
+          narrow = lit≤ tt;
+        }
 
-    -- and the burst behind it
-    pub burst_inside : InFile file (14 + 60 * k + 20) 40
-    burst_inside =
-        record { inside = omega (arith, w.holds.inside); near = omega (arith, w.holds.few); narrow = lit≤ tt }
-
-    -- there is room for both
+    -- there is room for both numbers
     pub rate_room : 2 * k < 128
     rate_room = omega (arith, w.holds.few)
 
-    -- and for its burst
     pub burst_room : 2 * k + 1 < 128
     burst_room = omega (arith, w.holds.few)
 
-    -- one more is decoded
-    pub decoding_step :
-        {rate burst : ℕ} → rate ≡ field file (14 + 60 * k) 20 → burst ≡ field file (14 + 60 * k + 20) 40
-        → Decoding file count (set (set pairs (2 * k) rate) (2 * k + 1) burst) (k + 1)
-    unfolding flat
-    decoding_step {rate} {burst} e e' =
-        record {
-          holds = w.holds;
-          long = length-set (set pairs (2 * k) rate) (2 * k + 1) burst ∙ length-set pairs (2 * k) rate ∙ w.long;
-          sofar = omega arith;
-          done = record { is = rw (add-one k) next };
-        }
-      where
-        twice : 2 * suc k ≡ suc (suc (2 * k))
-        twice = omega arith
+    module _ {held' : List ℕ} {at' : ℕ} (e : held' ≡ held) (f : at' ≡ at + 20) where
+      -- the burst lies behind the rate
+      pub burst_inside : InFile held' at' 40
+      burst_inside =
+          record {
+            inside = rw (e, w.same) (omega (arith, f, w.place, w.holds.inside));
+            near = omega (arith, f, w.place, w.holds.few);
+            narrow = lit≤ tt;
+          }
 
-        next : take (2 * suc k) (set (set pairs (2 * k) rate) (2 * k + 1) burst) ≡ flat (buckets_in file 14 (suc k))
-        next =
-            ap (λ (n : ℕ). take n (set (set pairs (2 * k) rate) (2 * k + 1) burst)) twice
-            ∙ take_two pairs (2 * k) rate burst (omega (arith, w.long, w.holds.few))
-            ∙ cc (w.done.is, e, e')
-            ∙ sym (flat_append (buckets_in file 14 k) (bucket_from file (14 + 60 * k) ∷ []))
-            ∙ ap flat (sym (buckets_in_next file 14 k))
+      -- and one bucket more is decoded
+      pub decoding_step :
+          {rate burst : ℕ} → rate ≡ field held at 20 → burst ≡ field held' at' 40
+          → {held'' : List ℕ} {at'' : ℕ} → held'' ≡ held' → at'' ≡ at' + 40
+          → Decoding file count (set (set pairs (2 * k) rate) (2 * k + 1) burst) held'' at'' (k + 1)
+      unfolding flat
+      decoding_step {rate} {burst} r b e' f' =
+          record {
+            holds = w.holds;
+            long = length-set (set pairs (2 * k) rate) (2 * k + 1) burst ∙ length-set pairs (2 * k) rate ∙ w.long;
+            sofar = omega arith;
+            same = e' ∙ e ∙ w.same;
+            place = omega (arith, f', f, w.place);
+            done = record { is = rw (add-one k) next };
+          }
+        where
+          twice : 2 * suc k ≡ suc (suc (2 * k))
+          twice = omega arith
+
+          rate_is : rate ≡ field file (14 + 60 * k) 20
+          rate_is = r ∙ cc (w.same, w.place)
+
+          burst_is : burst ≡ field file (14 + 60 * k + 20) 40
+          burst_is = b ∙ cc (e, w.same, f, w.place)
+
+          next : take (2 * suc k) (set (set pairs (2 * k) rate) (2 * k + 1) burst) ≡ flat (buckets_in file 14 (suc k))
+          next =
+              ap (λ (n : ℕ). take n (set (set pairs (2 * k) rate) (2 * k + 1) burst)) twice
+              ∙ take_two pairs (2 * k) rate burst (omega (arith, w.long, w.holds.few))
+              ∙ cc (w.done.is, rate_is, burst_is)
+              ∙ sym (flat_append (buckets_in file 14 k) (bucket_from file (14 + 60 * k) ∷ []))
+              ∙ ap flat (sym (buckets_in_next file 14 k))
 
   -- all are
   pub decoding_end : count ≤ k → Decoded file count pairs

@@ -1,13 +1,13 @@
 -- Bytes handed over to a lent buffer: the answer to a question of their own, and to that of the profile whose file they are.
 -- Assumes nothing.
-use mathlib.Core.Path.{◌≡◌, refl, sym, ◌∙◌}
+use mathlib.Core.Path.{◌≡◌, refl, sym, ◌∙◌, ap}
 use mathlib.Core.Bool.{Bool, true, false, not}
 use mathlib.Core.Logic.{inl, inr}
-use mathlib.Core.List.{List}
-use Prim.Native.Nat.{ℕ, ◌^◌, ◌≤◌, ◌<◌}
+use mathlib.Core.List.{List, ◌++◌}
+use Prim.Native.Nat.{ℕ, ◌≤◌, ◌<◌}
 use native.Mathlib.Omega.{arith}
 use lib.Dec.{lit≤}
-use lib.ListN.{length, take}
+use lib.ListN.{length, drop}
 use borrow.Author.Tests.{not-true, not-false}
 use Rattle.meaning.specs.Curve.{curve_of}
 use Rattle.meaning.specs.Server.{Server, Numbers, numbers_of}
@@ -24,7 +24,8 @@ use Rattle.checks.specs.Cited.{Tells}
 use Rattle.checks.proofs.Checks.{passed, curve_ranged, curve_some, curve_few}
 use Rattle.servers.specs.Cited as of_servers
 use Rattle.servers.proofs.Joins.{server_ranged}
-use Rattle.profiles.specs.Cited.{PackableServer, server_bytes, PackableCurve, curve_bytes, Packed, handing}
+use Rattle.profiles.specs.Cited.{padded, whole_bytes, RangedServer, server_bits, RangedCurve, curve_bits, handing}
+use Rattle.profiles.proofs.Packs.{whole_padded}
 
 -- ---- Bytes as they are.
 
@@ -40,8 +41,10 @@ module _ (bytes : List ℕ) {before : List ℕ} where
   handed_short short = no_room_bytes (handing bytes) before (λ r h. h) refl short
 
   -- they are written
-  pub handed : {after : List ℕ} → length bytes ≤ length before → after ≡ over bytes before → BytesOutcome (handing bytes) before after 0 (length bytes)
-  unfolding handing
+  pub handed :
+      {copied : List ℕ} → length bytes ≤ length before → copied ≡ bytes
+      → BytesOutcome (handing bytes) before (copied ++ drop (length bytes) before) 0 (length bytes)
+  unfolding handing over
   handed room e = rw e (filled_bytes (handing bytes) before (λ r h. h) refl (single_handing bytes) room)
 
 pub ruleset hands = (handed_short, handed)
@@ -127,36 +130,31 @@ module _ {ed : ℕ} (l : List ℕ) {answer : Bool} (t : Tells (Known ed 1) answe
   write_curve_header n = edition_refused ed (curve_lines l) (curve (curve_of l)) (curve_up_to l) t n
 
   module _ (n : not answer ≡ false) where
-    -- it fits its field
-    pub write_curve_early : ed < 2 ^ 4
-    write_curve_early = edition_fits (t.yes_means (not-false answer n))
-
     module _ {code : ℕ} (v : Verdict (curve_lines l) code) where
       -- the curve is refused
       pub write_curve_refused : {before : List ℕ} → (code ≡ 0 → ⊥) → WriteCurveOutcome ed l before before code 0
       write_curve_refused some = operand_refused ed (curve_lines l) (curve (curve_of l)) (curve_up_to l) t n v some
 
-      -- or handed over
+      -- it can be packed,
+      pub write_curve_ranged : code ≡ 0 → RangedCurve ed l
+      write_curve_ranged right =
+          record {
+            early = edition_fits (t.yes_means (not-false answer n));
+            ranged = curve_ranged l (passed v right);
+            some = curve_some l (passed v right);
+            few = curve_few l (passed v right);
+          }
+
+      -- and handed over
       pub write_curve_handed :
-          code ≡ 0 → {bytes before after : List ℕ} {size count told : ℕ} → Packed (curve_bytes ed l) bytes size
-          → BytesOutcome (handing (take size bytes)) before after told count → WriteCurveOutcome ed l before after told count
-      unfolding curve_bytes
-      write_curve_handed right w o =
-          operand_handed ed (curve_lines l) (curve (curve_of l)) (curve_up_to l) t n v right w.is o
+          code ≡ 0 → {bits bytes before after : List ℕ} {count told : ℕ} → bits ≡ padded (curve_bits ed l) → bytes ≡ whole_bytes bits
+          → BytesOutcome (handing bytes) before after told count → WriteCurveOutcome ed l before after told count
+      unfolding curve_bits
+      write_curve_handed right e f o =
+          operand_handed ed (curve_lines l) (curve (curve_of l)) (curve_up_to l) t n v right
+          (f ∙ ap whole_bytes e ∙ whole_padded ed (curve (curve_of l))) o
 
--- it can be packed
-pub write_packable :
-    (l : List ℕ) {code : ℕ} → Verdict (curve_lines l) code → code ≡ 0 → {bytes : List ℕ} → length bytes ≡ 482 → PackableCurve l bytes
-write_packable l v right room =
-    record {
-      ranged = curve_ranged l (passed v right);
-      some = curve_some l (passed v right);
-      few = curve_few l (passed v right);
-      room = room;
-    }
-
-pub ruleset curve_writes =
-    (write_curve_header, write_curve_early, write_curve_refused, write_packable, write_curve_handed)
+pub ruleset curve_writes = (write_curve_header, write_curve_refused, write_curve_ranged, write_curve_handed)
 
 -- ---- A server.
 
@@ -176,20 +174,20 @@ module _ {ed : ℕ} (s : Server) {k : Numbers} (e : k ≡ numbers_of s) {answer 
 
     module _ (right : code ≡ 0) where
       -- it can be packed
-      pub write_server_packable : {bytes : List ℕ} → length bytes ≡ 6 → PackableServer ed s bytes
-      write_server_packable room =
+      pub write_server_ranged : RangedServer ed s
+      write_server_ranged =
           record {
             early = edition_fits (of_server.yes_means (not-false answer n));
             ranged = server_ranged s (passed v.verdict right);
-            room = room;
           }
 
       -- and handed over
       pub write_server_handed :
-          {bytes before after : List ℕ} {size count told : ℕ} → Packed (server_bytes ed s) bytes size
-          → BytesOutcome (handing (take size bytes)) before after told count → WriteServerOutcome ed s before after told count
-      unfolding server_bytes
-      write_server_handed w o =
-          operand_handed ed (server_lines s) (server s) (server_up_to s) of_server n v.verdict right w.is o
+          {bits bytes before after : List ℕ} {count told : ℕ} → bits ≡ padded (server_bits ed s) → bytes ≡ whole_bytes bits
+          → BytesOutcome (handing bytes) before after told count → WriteServerOutcome ed s before after told count
+      unfolding server_bits
+      write_server_handed e f o =
+          operand_handed ed (server_lines s) (server s) (server_up_to s) of_server n v.verdict right
+          (f ∙ ap whole_bytes e ∙ whole_padded ed (server s)) o
 
-pub ruleset server_writes = (write_server_header, write_server_refused, write_server_packable, write_server_handed)
+pub ruleset server_writes = (write_server_header, write_server_refused, write_server_ranged, write_server_handed)

@@ -8,15 +8,15 @@ use native.Mathlib.Nat.{lt_of_lt_of_le, le_trans, le_refl, mul-le-mul, mod-lt, m
 use native.Mathlib.Numerals.{add-one}
 use native.Mathlib.Omega.{arith}
 use lib.ListN.{length, take, set, length-set, length-append}
-use lib.Seq.{take_all, take-suc-set}
+use lib.Seq.{take_all, take-suc-set, length-take-le}
 use lib.Dec.{lit≤}
 use lib.Pow.{pow_pos, pow_mono, pow-lt, pow-add, shl_lt, mod-pow-add}
 use mir.Syntax.{w8, w64}
 use mir.Val.{Fits}
 use Rattle.meaning.specs.Profile.{bits_of, spelt, ◌bits◌, packed, file_bits}
 use Rattle.meaning.proofs.Lists.{append_each}
-use Rattle.meaning.proofs.Profile.Bits.{Binary, binary_append, binary_packed, length_bits, spelt_bits, bits_at, file_bits_append}
-use Rattle.profiles.specs.Cited.{packed_bits, AreBytes, Fitting, Appends}
+use Rattle.meaning.proofs.Profile.Bits.{Binary, binary_append, binary_packed, length_bits, length_file_bits, spelt_bits, bits_at, file_bits_append}
+use Rattle.profiles.specs.Cited.{packed_bits, AreBytes, WellPacked}
 use Rattle.profiles.proofs.Taking.{spelt_append}
 
 -- ---- Bits.
@@ -47,67 +47,97 @@ file_next l b =
 
 -- ---- Byte after byte.
 
--- The bits that are to be packed: those that are, and the field.
-abbrev goal : List ℕ → ℕ → ℕ → ℕ → ℕ → List ℕ
-goal before at left width x = packed_bits before at left ++ bits_of width x
+-- a writer has packed as many bits as its position says
+pub packed_length : {n : ℕ} {bytes : List ℕ} {at left : ℕ} → WellPacked n bytes at left → length (packed_bits bytes at left) ≡ at
+unfolding packed_bits
+packed_length {bytes = bytes} {at} {left} p =
+    length-append (file_bits (take (at / 8) bytes)) (bits_of (at % 8) left)
+    ∙ omega (
+      arith,
+      length_file_bits (take (at / 8) bytes),
+      length-take-le (at / 8) bytes (omega (arith, p.long, p.inside)),
+      length_bits (at % 8) left,
+    )
 
--- They stand in the bytes that are full, and in the low bits of the whole that are pending.
-pub record Putting (before : List ℕ) (at left width x : ℕ) (bytes : List ℕ) (whole i pending : ℕ) : Type 0 where
-  pub fitting : Fitting before at left width x
-  pub begun : at / 8 ≤ i
-  pub place : 8 * i + pending ≡ at + width
-  pub long : length bytes ≡ length before
-  pub are_bytes : AreBytes (take (at / 8) before) → AreBytes (take i bytes)
-  pub is : file_bits (take i bytes) ++ bits_of pending (whole % 2 ^ pending) ≡ goal before at left width x
+-- at the start none
+pub packed_none : (bytes : List ℕ) → packed_bits bytes 0 0 ≡ []
+unfolding packed_bits file_bits packed bits_of
+packed_none bytes = refl
 
-module _ {before : List ℕ} {at left width x : ℕ} (w : Fitting before at left width x) where
-  -- what is left has at most seven bits
-  narrow_left : left < 2 ^ 7
-  narrow_left = lt_of_lt_of_le w.left_fits (pow_mono {j = 7} (omega arith))
-
-  -- shifted, what is left loses nothing
-  shifted : left * 2 ^ width % 2 ^ 64 ≡ left * 2 ^ width
-  shifted = mod-eq_of_lt (lt_of_lt_of_le (shl_lt 7 width narrow_left) (pow_mono {j = 64} (omega (arith, w.narrow))))
-
-  -- with the field behind it, it has as many bits as both
-  joined_fits : left * 2 ^ width + x < 2 ^ (at % 8 + width)
-  joined_fits =
-      let top : left * 2 ^ width + 2 ^ width ≤ 2 ^ (at % 8) * 2 ^ width =
-      le_trans (omega arith) (mul-le-mul {n₁ = left + 1} {n₂ = 2 ^ (at % 8)} (omega (arith, w.left_fits)) (le_refl (2 ^ width))) in
-      rw (pow-add 2 (at % 8) width) (omega (arith, w.fits))
-
-  -- so it fits
-  pub put_fits : Fits w64 (left * 2 ^ width % 2 ^ 64 + x)
-  put_fits = record { fits = rw shifted (lt_of_lt_of_le joined_fits (pow_mono {j = 64} (omega (arith, w.narrow)))) }
-
-  -- none is written yet
-  pub put_start : Putting before at left width x before (left * 2 ^ width % 2 ^ 64 + x) (at / 8) (at % 8 + width)
-  unfolding packed_bits
-  put_start =
-      record {
-        fitting = w;
-        begun = omega arith;
-        place = omega arith;
-        long = refl;
-        are_bytes = λ h. h;
-        is =
-            rw (shifted, mod-eq_of_lt joined_fits)
-            (ap (λ (l : List ℕ). file_bits (take (at / 8) before) ++ l) (bits_join (at % 8) width left x w.left_fits w.fits)
-            ∙ sym (append_assoc (file_bits (take (at / 8) before)) (bits_of (at % 8) left) (bits_of width x)));
-      }
+-- The bits that are to be packed stand in the bytes that are full, and in the low bits of the whole that are pending.
+pub record Putting (n : ℕ) (old : List ℕ) (width x : ℕ) (bytes : List ℕ) (end whole i pending : ℕ) : Type 0 where
+  pub long : length bytes ≡ n
+  pub near : n ≤ 512
+  pub inside : end ≤ 8 * n
+  pub narrow : pending < 64
+  pub place : 8 * i + pending ≡ end
+  pub are_bytes : AreBytes (take i bytes)
+  pub is : file_bits (take i bytes) ++ bits_of pending (whole % 2 ^ pending) ≡ old ++ bits_of width x
 
 module _
-    {before : List ℕ} {at left width x : ℕ} {bytes : List ℕ} {whole i pending : ℕ}
-    (w : Putting before at left width x bytes whole i pending)
+    {n : ℕ} {bytes old : List ℕ} {at left width x : ℕ} (p : WellPacked n bytes at left) (e : packed_bits bytes at left ≡ old)
+    (fits : x < 2 ^ width) (room : length old + width ≤ 8 * n) (few : width ≤ 40)
   where
-    module _ (more : 8 ≤ pending) where
+    -- the field ends inside
+    put_room : at + width ≤ 8 * n
+    put_room = omega (arith, ap length e, packed_length p)
+
+    -- the position fits,
+    pub put_end_fits : Fits w64 (at + width)
+    put_end_fits = record { fits = omega (arith, put_room, p.near) }
+
+    -- what is left has at most seven bits
+    narrow_left : left < 2 ^ 7
+    narrow_left = lt_of_lt_of_le p.left_fits (pow_mono {j = 7} (omega arith))
+
+    -- shifted, what is left loses nothing
+    shifted : left * 2 ^ width % 2 ^ 64 ≡ left * 2 ^ width
+    shifted = mod-eq_of_lt (lt_of_lt_of_le (shl_lt 7 width narrow_left) (pow_mono {j = 64} (omega arith)))
+
+    -- with the field behind it, it has as many bits as both
+    joined_fits : left * 2 ^ width + x < 2 ^ (at % 8 + width)
+    joined_fits =
+        let top : left * 2 ^ width + 2 ^ width ≤ 2 ^ (at % 8) * 2 ^ width =
+        le_trans (omega arith) (mul-le-mul {n₁ = left + 1} {n₂ = 2 ^ (at % 8)} (omega (arith, p.left_fits)) (le_refl (2 ^ width))) in
+        rw (pow-add 2 (at % 8) width) (omega arith)
+
+    -- so it fits
+    pub put_fits : Fits w64 (left * 2 ^ width % 2 ^ 64 + x)
+    put_fits = record { fits = rw shifted (lt_of_lt_of_le joined_fits (pow_mono {j = 64} (omega arith))) }
+
+    -- no byte is written yet
+    pub put_start : Putting n old width x bytes (at + width) (left * 2 ^ width % 2 ^ 64 + x) (at / 8) (at % 8 + width)
+    unfolding packed_bits
+    put_start =
+        record {
+          long = p.long;
+          near = p.near;
+          inside = put_room;
+          narrow = omega arith;
+          place = omega arith;
+          are_bytes = p.whole;
+          is =
+              rw (← e) (rw (shifted, mod-eq_of_lt joined_fits)
+              (ap (λ (l : List ℕ). file_bits (take (at / 8) bytes) ++ l) (bits_join (at % 8) width left x p.left_fits fits)
+              ∙ sym (append_assoc (file_bits (take (at / 8) bytes)) (bits_of (at % 8) left) (bits_of width x))));
+        }
+
+module _
+    {n : ℕ} {old : List ℕ} {width x : ℕ} {bytes : List ℕ} {end whole i pending : ℕ}
+    (w : Putting n old width x bytes end whole i pending)
+  where
+    module _ (more : i < end / 8) where
+      -- a byte more is pending
+      pub put_pending : 8 ≤ pending
+      put_pending = omega (arith, w.place)
+
       -- the next byte of the whole
       abbrev byte : ℕ
       byte = whole / 2 ^ (pending - 8) % 256
 
       -- it is not shifted too far
       pub put_shift : pending - 8 < 64
-      put_shift = omega (arith, w.fitting.narrow, w.place, w.begun)
+      put_shift = omega (arith, w.narrow)
 
       -- and is a byte,
       byte_fits : byte < 256
@@ -118,18 +148,19 @@ module _
       put_byte_fits = record { fits = byte_fits }
 
       -- there is room for it
-      pub put_inside : i < length bytes
-      put_inside = omega (arith, w.fitting.inside, w.place, w.long)
+      pub put_inside : i < n
+      put_inside = omega (arith, w.inside)
 
       -- it is written
-      pub put_step : Putting before at left width x (set bytes i byte) whole (i + 1) (pending - 8)
+      pub put_step : Putting n old width x (set bytes i byte) end whole (i + 1) (pending - 8)
       put_step =
           record {
-            fitting = w.fitting;
-            begun = omega (arith, w.begun);
-            place = omega (arith, w.place);
             long = length-set bytes i byte ∙ w.long;
-            are_bytes = λ h. rw longer (append_each {l = take i bytes} {r = byte ∷ []} (w.are_bytes h) (λ y m. rw (Memᴰ.eq_of_singleton m) byte_fits));
+            near = w.near;
+            inside = w.inside;
+            narrow = put_shift;
+            place = omega (arith, w.place, put_pending);
+            are_bytes = rw longer (append_each {l = take i bytes} {r = byte ∷ []} w.are_bytes (λ y m. rw (Memᴰ.eq_of_singleton m) byte_fits));
             is =
                 rw longer
                 (ap (λ (l : List ℕ). l ++ bits_of (pending - 8) (whole % 2 ^ (pending - 8))) (file_next (take i bytes) byte)
@@ -139,41 +170,51 @@ module _
           }
         where
           longer : take (i + 1) (set bytes i byte) ≡ take i bytes ++ byte ∷ []
-          longer = rw (add-one i) (take-suc-set bytes i byte put_inside)
+          longer = rw (add-one i) (take-suc-set bytes i byte (omega (arith, put_inside, w.long)))
 
           eight_more : pending ≡ 8 + (pending - 8)
-          eight_more = omega arith
+          eight_more = omega (arith, put_pending)
 
           apart : bits_of pending (whole % 2 ^ pending) ≡ bits_of 8 byte ++ bits_of (pending - 8) (whole % 2 ^ (pending - 8))
           apart =
-              ap (λ (n : ℕ). bits_of n (whole % 2 ^ n)) eight_more
+              ap (λ (m : ℕ). bits_of m (whole % 2 ^ m)) eight_more
               ∙ ap (bits_of (8 + (pending - 8))) (mod-pow-add whole 8 (pending - 8))
               ∙ bits_join 8 (pending - 8) byte (whole % 2 ^ (pending - 8)) byte_fits (mod-lt whole (pow_pos (pending - 8)))
 
-    module _ (few : pending < 8) where
-      -- the modulus is a power of two,
-      power : 1 * 2 ^ pending % 2 ^ 64 ≡ 2 ^ pending
-      power = mod-eq_of_lt (omega (arith, pow-lt {i = pending} {j = 64} (omega arith))) ∙ omega arith
+    -- the modulus is a power of two,
+    power : 1 * 2 ^ pending % 2 ^ 64 ≡ 2 ^ pending
+    power = mod-eq_of_lt (omega (arith, pow-lt {i = pending} {j = 64} w.narrow)) ∙ omega arith
 
-      -- and not 0
-      pub put_modulus : 0 < 1 * 2 ^ pending % 2 ^ 64
-      put_modulus = rw power (pow_pos pending)
+    -- and not 0
+    pub put_modulus : 0 < 1 * 2 ^ pending % 2 ^ 64
+    put_modulus = rw power (pow_pos pending)
 
-      -- all that fills bytes is written, and the rest is left
-      pub put_end : Appends before at left (bits_of width x) bytes (at + width) (whole % (1 * 2 ^ pending % 2 ^ 64))
-      unfolding packed_bits
-      put_end =
+    module _ (all : end / 8 ≤ i) where
+      full : end / 8 ≡ i
+      full = omega (arith, w.place)
+
+      part : end % 8 ≡ pending
+      part = omega (arith, w.place, full)
+
+      -- what fills bytes is written, and the rest is left
+      pub put_well : WellPacked n bytes end (whole % (1 * 2 ^ pending % 2 ^ 64))
+      put_well =
           record {
-            is = rw (full, part, power) w.is;
-            rest_fits = rw (part, power) (mod-lt whole (pow_pos pending));
-            whole = rw full w.are_bytes;
             long = w.long;
+            near = w.near;
+            inside = w.inside;
+            left_fits = rw (part, power) (mod-lt whole (pow_pos pending));
+            whole = rw full w.are_bytes;
           }
-        where
-          full : (at + width) / 8 ≡ i
-          full = omega (arith, w.place)
 
-          part : (at + width) % 8 ≡ pending
-          part = omega (arith, w.place)
+      -- and the field is packed
+      pub put_end : packed_bits bytes end (whole % (1 * 2 ^ pending % 2 ^ 64)) ≡ old ++ bits_of width x
+      unfolding packed_bits
+      put_end = rw (full, part, power) w.is
 
-pub ruleset putting = (put_fits, put_start, put_shift, put_byte_fits, put_modulus, put_inside, put_step, put_end)
+      -- which makes so many bits more
+      pub put_longer : length (packed_bits bytes end (whole % (1 * 2 ^ pending % 2 ^ 64))) ≡ length old + width
+      put_longer = ap length put_end ∙ length-append old (bits_of width x) ∙ omega (arith, length_bits width x)
+
+pub ruleset putting =
+    (packed_none, put_end_fits, put_fits, put_start, put_pending, put_shift, put_byte_fits, put_modulus, put_inside, put_step, put_well, put_end, put_longer)

@@ -2,18 +2,19 @@
 -- Assumes nothing.
 use mathlib.Core.Path.{◌≡◌, refl, sym, ◌∙◌, ap}
 use mathlib.Core.List.{List, [], ◌∷◌, ◌++◌}
-use Prim.Native.Nat.{ℕ, zero, suc, ◌+◌, ◌-◌, ◌*◌, ◌/◌, ◌%◌, ◌^◌, ◌≤◌, ◌<◌}
+use Prim.Native.Nat.{ℕ, zero, suc, min, ◌+◌, ◌-◌, ◌*◌, ◌/◌, ◌%◌, ◌^◌, ◌≤◌, ◌<◌}
 use native.Mathlib.Nat.{lt_of_lt_of_le, mod-eq_of_lt}
 use native.Mathlib.Omega.{arith}
 use lib.ListN.{length, get_or, take, drop, length-append, length-drop}
 use lib.Seq.{take-add, drop-drop, drop-append-add, length-take-le}
 use lib.Pow.{pow_pos, pow_mono, pow-lt, pow-add, high, low}
-use mir.Syntax.{w64}
+use mir.Syntax.{w8, w64}
 use mir.Val.{Fits}
 use Rattle.meaning.specs.Profile.{bits_of, spelt, packed, file_bits, field}
 use Rattle.meaning.proofs.Profile.Bits.{length_bits, bits_taken, spelt_bits, length_file_bits}
 use Rattle.meaning.proofs.Profile.Fields.{field_fits}
-use Rattle.profiles.specs.Cited.{InFile, Widened}
+use Rattle.profiles.specs.Cited.{InFile}
+use Rattle.std.proofs.lemmas.List.{get_or-take, get_or-drop, length-take}
 
 -- bits before bits
 pub spelt_append : (l r : List ℕ) → spelt (l ++ r) ≡ spelt l * 2 ^ length r + spelt r
@@ -63,76 +64,77 @@ middle file from before width behind h =
     ap (λ (n : ℕ). n % 2 ^ width) (front ∙ field_split file from before width (omega arith))
     ∙ low (field file from before) width (field_fits file (from + before) width)
 
--- The bytes from the field's first one up to byte i are taken.
-pub record Taken (file : List ℕ) (at width end taken i : ℕ) : Type 0 where
+-- The bytes that hold the field.
+abbrev holding : List ℕ → ℕ → ℕ → List ℕ
+holding file at last = take (last - at / 8) (drop (at / 8) file)
+
+-- The first n of them are taken.
+pub record Taken (file : List ℕ) (at width last taken n : ℕ) : Type 0 where
   pub field_in : InFile file at width
-  pub end_is : end ≡ at + width
-  pub begun : at / 8 ≤ i
-  pub close : 8 * i < end + 8
-  pub is : taken ≡ field file (8 * (at / 8)) (8 * (i - at / 8))
+  pub last_is : last ≡ (at + width + 7) / 8
+  pub sofar : at / 8 + n ≤ last
+  pub is : taken ≡ field file (8 * (at / 8)) (8 * n)
 
 -- none is taken yet
-pub taken_start : {file : List ℕ} {at width : ℕ} → InFile file at width → Taken file at width (at + width) 0 (at / 8)
+pub taken_start :
+    {file : List ℕ} {at width last : ℕ} → InFile file at width → last ≡ (at + width) / 8 + min 1 ((at + width) % 8)
+    → Taken file at width last 0 0
 unfolding field spelt
-taken_start {file} {at} h =
-    record {
-      field_in = h;
-      end_is = refl;
-      begun = omega arith;
-      close = omega arith;
-      is = ap (field file (8 * (at / 8))) none;
-    }
-  where
-    none : 0 ≡ 8 * (at / 8 - at / 8)
-    none = omega arith
+taken_start h e = record { field_in = h; last_is = omega arith; sofar = omega (arith, e); is = refl }
 
-module _ {file : List ℕ} {at width end taken i : ℕ} (w : Taken file at width end taken i) where
-  -- there is one more
-  pub taken_inside : 8 * i < end → i < length file
-  taken_inside more = omega (arith, w.field_in.inside, w.end_is)
+module _ {file : List ℕ} {at width last taken n : ℕ} (w : Taken file at width last taken n) where
+  module _ (more : n < length (holding file at last)) (small : (i : ℕ) → Fits w8 (get_or file i 0)) where
+    -- there is one more
+    inside : at / 8 + n < last
+    inside = omega (arith, length-take (last - at / 8) (drop (at / 8) file))
 
-  -- what is taken is small
-  small : 8 * i < end → taken < 2 ^ 40
-  small more =
-      rw w.is
-      (lt_of_lt_of_le (field_fits file (8 * (at / 8)) (8 * (i - at / 8)))
-      (pow_mono {j = 40} (omega (arith, w.field_in.narrow, w.end_is))))
+    -- which lies in the file
+    in_file : at / 8 + n < length file
+    in_file = omega (arith, inside, w.field_in.inside, w.last_is)
 
-  -- the number fits
-  pub taken_fits : 8 * i < end → Fits w64 (taken * 256)
-  taken_fits more = record { fits = omega (arith, small more) }
+    -- what is taken is small
+    taken_small : taken < 2 ^ 40
+    taken_small =
+        rw w.is
+        (lt_of_lt_of_le (field_fits file (8 * (at / 8)) (8 * n))
+        (pow_mono {j = 40} (omega (arith, inside, w.field_in.narrow, w.last_is))))
 
-  module _ (more : 8 * i < end) {byte : ℕ} (next : Widened (get_or file i 0) byte) where
-    -- so is what is taken with the next byte
-    pub taken_sum_fits : Fits w64 (taken * 256 + byte)
-    taken_sum_fits = record { fits = omega (arith, small more, next.small) }
+    -- the number fits
+    pub taken_fits : Fits w64 (taken * 256)
+    taken_fits = record { fits = omega (arith, taken_small) }
 
-    -- one more is taken
-    pub taken_step : Taken file at width end (taken * 256 + byte) (i + 1)
-    taken_step =
-        record {
-          field_in = w.field_in;
-          end_is = w.end_is;
-          begun = omega (arith, w.begun);
-          close = omega arith;
-          is = rw (w.is, next.is) one_more;
-        }
-      where
-        here : 8 * (at / 8) + 8 * (i - at / 8) ≡ 8 * i
-        here = omega (arith, w.begun)
+    module _ {byte : ℕ} (next : byte ≡ get_or (holding file at last) n 0) where
+      -- the byte is the file's
+      byte_is : byte ≡ get_or file (at / 8 + n) 0
+      byte_is = next ∙ get_or-take (last - at / 8) (drop (at / 8) file) n 0 (omega (arith, inside)) ∙ get_or-drop (at / 8) file n 0
 
-        longer : 8 * (i + 1 - at / 8) ≡ 8 * (i - at / 8) + 8
-        longer = omega (arith, w.begun)
+      -- so is what is taken with the next byte
+      pub taken_sum_fits : Fits w64 (taken * 256 + byte)
+      taken_sum_fits = record { fits = omega (arith, taken_small, byte_is, (small (at / 8 + n)).fits) }
 
-        one_more :
-            field file (8 * (at / 8)) (8 * (i - at / 8)) * 256 + get_or file i 0
-            ≡ field file (8 * (at / 8)) (8 * (i + 1 - at / 8))
-        one_more =
-            sym
-            (ap (field file (8 * (at / 8))) longer
-            ∙ field_split file (8 * (at / 8)) (8 * (i - at / 8)) 8 (omega (arith, taken_inside more))
-            ∙ ap (λ (n : ℕ). field file (8 * (at / 8)) (8 * (i - at / 8)) * 256 + n)
-            (ap (λ (n : ℕ). field file n 8) here ∙ byte_field file i (taken_inside more) (omega (arith, next.small, next.is))))
+      -- one more is taken
+      pub taken_step : Taken file at width last (taken * 256 + byte) (n + 1)
+      taken_step =
+          record {
+            field_in = w.field_in;
+            last_is = w.last_is;
+            sofar = omega (arith, inside);
+            is = rw (w.is, byte_is) one_more;
+          }
+        where
+          here : 8 * (at / 8) + 8 * n ≡ 8 * (at / 8 + n)
+          here = omega arith
+
+          longer : 8 * (n + 1) ≡ 8 * n + 8
+          longer = omega arith
+
+          one_more : field file (8 * (at / 8)) (8 * n) * 256 + get_or file (at / 8 + n) 0 ≡ field file (8 * (at / 8)) (8 * (n + 1))
+          one_more =
+              sym
+              (ap (field file (8 * (at / 8))) longer
+              ∙ field_split file (8 * (at / 8)) (8 * n) 8 (omega (arith, in_file))
+              ∙ ap (λ (m : ℕ). field file (8 * (at / 8)) (8 * n) * 256 + m)
+              (ap (λ (m : ℕ). field file m 8) here ∙ byte_field file (at / 8 + n) in_file (small (at / 8 + n)).fits))
 
   -- the modulus is a power of two,
   power : 1 * 2 ^ width % 2 ^ 64 ≡ 2 ^ width
@@ -143,11 +145,20 @@ module _ {file : List ℕ} {at width end taken i : ℕ} (w : Taken file at width
   taken_modulus = rw power (pow_pos width)
 
   -- all are: the field is in the middle
-  pub taken_end : end ≤ 8 * i → taken / 2 ^ (8 * i - end) % (1 * 2 ^ width % 2 ^ 64) ≡ field file at width
+  pub taken_end :
+      length (holding file at last) ≤ n → taken / 2 ^ (8 * last - (at + width)) % (1 * 2 ^ width % 2 ^ 64) ≡ field file at width
   taken_end all =
-      rw (w.is, whole, power) (middle file (8 * (at / 8)) (at % 8) width (8 * i - end) (omega (arith, w.field_in.inside, w.end_is)) ∙ ap (λ (n : ℕ). field file n width) (omega arith))
+      rw (w.is, whole, power) (middle file (8 * (at / 8)) (at % 8) width (8 * last - (at + width)) (omega (arith, w.field_in.inside, w.last_is)) ∙ ap (λ (m : ℕ). field file m width) (omega arith))
     where
-      whole : 8 * (i - at / 8) ≡ at % 8 + width + (8 * i - end)
-      whole = omega (arith, w.begun, w.end_is)
+      whole : 8 * n ≡ at % 8 + width + (8 * last - (at + width))
+      whole =
+          omega (
+            arith,
+            w.last_is,
+            w.sofar,
+            w.field_in.inside,
+            length-take (last - at / 8) (drop (at / 8) file),
+            length-drop (at / 8) file,
+          )
 
-pub ruleset taking = (taken_start, taken_inside, taken_fits, taken_sum_fits, taken_step, taken_modulus, taken_end)
+pub ruleset taking = (taken_start, taken_fits, taken_sum_fits, taken_step, taken_modulus, taken_end)

@@ -1,12 +1,12 @@
 -- What the contracts of this crate's own functions cite, beside the definitions of the crate meaning.
 -- Assumes nothing.
-use Rattle.std.specs.Prelude.{◌≡◌, ◌≢◌, ℕ, ◌+◌, ◌-◌, ◌*◌, ◌/◌, ◌%◌, ◌^◌, ◌≤◌, ◌<◌, length, take}
+use Rattle.std.specs.Prelude.{◌≡◌, ◌≢◌, ℕ, ◌+◌, ◌-◌, ◌*◌, ◌/◌, ◌%◌, ◌^◌, ◌≤◌, ◌<◌, length, take, replicate}
 use mathlib.Core.List.{List, ◌++◌, Memᴰ}
 use Rattle.meaning.specs.Curve.{flat, curve_of}
 use Rattle.meaning.specs.Server.{Server, no_server}
 use Rattle.meaning.specs.ServerQuestions.{ServerInRange}
 use Rattle.meaning.specs.Refusal.{Verdict, AllInRange, BytesQuestion}
-use Rattle.meaning.specs.Profile.{bits_of, packed, file_bits, curve_kind, curve, server, bucket_fields, profile_bits, written, field, buckets_in, edition_of, kind_in, profile_of, bytes_taken, padding, file_lines, Reading, ReadPartOutcome}
+use Rattle.meaning.specs.Profile.{bits_of, file_bits, bytes_of, curve_kind, curve, server, profile_bits, field, buckets_in, edition_of, kind_in, profile_of, bytes_taken, padding, file_lines, Reading, ReadPartOutcome}
 use Rattle.meaning.proofs.Profile.RoundTrip.{RightHeader}
 use Rattle.servers.specs.Cited.{server_of}
 use Rattle.profiles.specs.declared.Profile as held_profile
@@ -18,11 +18,6 @@ pub record InFile (file : List ℕ) (at width : ℕ) : Type 0 where
   pub inside : at + width ≤ 8 * length file
   pub near : at ≤ 4096
   pub narrow : width ≤ 40
-
--- A byte as a number.
-pub record Widened (byte number : ℕ) : Type 0 where
-  pub is : number ≡ byte
-  pub small : number < 256
 
 -- ---- The frame of a file.
 
@@ -99,75 +94,45 @@ packed_bits bytes at left = file_bits (take (at / 8) bytes) ++ bits_of (at % 8) 
 abbrev pub AreBytes : List ℕ → Type 0
 AreBytes l = (x : ℕ) → Memᴰ x l → x < 256
 
--- A field of at most 40 bits, into which x fits, that lies in the bytes, not further on than 4096 bits.
-pub record Fitting (bytes : List ℕ) (at left width x : ℕ) : Type 0 where
+-- At most n bytes are full up to a bit, and what is left fits the bits behind them.
+pub record WellPacked (n : ℕ) (bytes : List ℕ) (at left : ℕ) : Type 0 where
+  pub long : length bytes ≡ n
+  pub near : n ≤ 512
+  pub inside : at ≤ 8 * n
   pub left_fits : left < 2 ^ (at % 8)
-  pub fits : x < 2 ^ width
-  pub inside : at + width ≤ 8 * length bytes
-  pub near : at ≤ 4096
-  pub narrow : width ≤ 40
+  pub whole : AreBytes (take (at / 8) bytes)
 
--- Two such fields, the second behind the first.
-pub record FittingTwo (bytes : List ℕ) (at left width x width_behind y : ℕ) : Type 0 where
-  pub left_fits : left < 2 ^ (at % 8)
-  pub fits : x < 2 ^ width
-  pub fits_behind : y < 2 ^ width_behind
-  pub inside : at + width + width_behind ≤ 8 * length bytes
-  pub near : at ≤ 4000
-  pub narrow : width ≤ 40
-  pub narrow_behind : width_behind ≤ 40
+-- Bits, with zero bits up to a byte's end.
+unfoldable pub padded : List ℕ → List ℕ
+padded l = l ++ replicate (8 * ((length l + 7) / 8) - length l) 0
 
--- Bits are packed behind those that are packed up to a bit.
-pub record Appends (before : List ℕ) (at left : ℕ) (bits after : List ℕ) (to rest : ℕ) : Type 0 where
-  pub is : packed_bits after to rest ≡ packed_bits before at left ++ bits
-  pub rest_fits : rest < 2 ^ (to % 8)
-  pub whole : AreBytes (take (at / 8) before) → AreBytes (take (to / 8) after)
-  pub long : length after ≡ length before
+-- The bytes that bits fill.
+unfoldable pub whole_bytes : List ℕ → List ℕ
+whole_bytes l = bytes_of (length l / 8) l
 
--- An edition that fits its field, a server that is in range, and room for its bytes.
-pub record PackableServer (ed : ℕ) (s : Server) (bytes : List ℕ) : Type 0 where
+-- An edition that fits its field, and a server that is in range.
+pub record RangedServer (ed : ℕ) (s : Server) : Type 0 where
   pub early : ed < 2 ^ 4
   pub ranged : ServerInRange s
-  pub room : length bytes ≡ 6
 
--- The server's file.
-unfoldable pub server_bytes : ℕ → Server → List ℕ
-server_bytes ed s = written ed (server s)
+-- The server's bits.
+unfoldable pub server_bits : ℕ → Server → List ℕ
+server_bits ed s = profile_bits ed (server s)
 
--- The list of a curve of 1 to 64 buckets that are in range, and room for its bytes.
-pub record PackableCurve (l bytes : List ℕ) : Type 0 where
+-- An edition that fits its field, and the list of a curve of 1 to 64 buckets that are in range.
+pub record RangedCurve (ed : ℕ) (l : List ℕ) : Type 0 where
+  pub early : ed < 2 ^ 4
   pub ranged : AllInRange (curve_of l)
   pub some : 1 ≤ length (curve_of l)
   pub few : length (curve_of l) ≤ 64
-  pub room : length bytes ≡ 482
-
--- An edition that fits its field, a count of 1 to 64, and room.
-pub record HeadRoom (ed count : ℕ) (bytes : List ℕ) : Type 0 where
-  pub early : ed < 2 ^ 4
-  pub some : 1 ≤ count
-  pub few : count ≤ 64
-  pub room : length bytes ≡ 482
 
 -- The bits before a curve's buckets: edition, kind, count minus one.
 unfoldable pub head_bits : ℕ → ℕ → List ℕ
 head_bits ed count = bits_of 4 ed ++ bits_of 4 curve_kind ++ bits_of 6 (count - 1)
 
--- The bits of its buckets,
-unfoldable pub bucket_bits : List ℕ → List ℕ
-bucket_bits l = packed (bucket_fields (curve_of l))
-
--- the bit behind them,
-unfoldable pub bit_count : List ℕ → ℕ
-bit_count l = 14 + 60 * length (curve_of l)
-
--- and its file.
-unfoldable pub curve_bytes : ℕ → List ℕ → List ℕ
-curve_bytes ed l = written ed (curve (curve_of l))
-
--- A file stands at the start of the bytes, and has so many.
-pub record Packed (file bytes : List ℕ) (count : ℕ) : Type 0 where
-  pub is : take count bytes ≡ file
-  pub few : count ≤ length bytes
+-- The curve's bits.
+unfoldable pub curve_bits : ℕ → List ℕ → List ℕ
+curve_bits ed l = profile_bits ed (curve (curve_of l))
 
 -- ---- Handing over.
 

@@ -5,7 +5,6 @@ mod bits;
 mod frame;
 mod packing;
 mod reader;
-mod writer;
 
 ghost use Rattle.std.specs.Prelude.{◌≡◌};
 ghost use Rattle.meaning.specs.Profile.{Known, edition_of, kind_in, bytes_taken, ReadOutcome, ReadPartOutcome, WriteCurveOutcome, WriteServerOutcome};
@@ -162,7 +161,7 @@ pub fn hand_over(bytes: &[u8], buffer: &mut [u8]) -> Written
             bytes: 0,
         };
     }
-    writer::fill(bytes, buffer);
+    buffer[..bytes.len()].copy_from_slice(bytes);
     Written {
         code: 0,
         bytes: bytes.len() as u64,
@@ -183,9 +182,8 @@ pub fn write_curve(edition: u64, curve: &[u64], buffer: &mut [u8]) -> Written
     if code != 0 {
         return Written { code, bytes: 0 };
     }
-    let mut bytes = [0u8; 482];
-    let count = packing::pack_curve(edition, curve, &mut bytes);
-    hand_over(&bytes[..count], buffer)
+    let writer = packing::pack_curve(edition, curve);
+    hand_over(writer.bytes(), buffer)
 }
 
 // Writes a server as a file of an edition, to the start of a lent buffer.
@@ -203,7 +201,6 @@ pub fn write_server(edition: u64, server: Server, buffer: &mut [u8]) -> Written
     if code != 0 {
         return Written { code, bytes: 0 };
     }
-    let mut bytes = [0u8; 6];
-    let count = packing::pack_server(edition, server, &mut bytes);
-    hand_over(&bytes[..count], buffer)
+    let writer = packing::pack_server(edition, server);
+    hand_over(writer.bytes(), buffer)
 }

@@ -5,7 +5,8 @@ ghost use Rattle.meaning.specs.Profile.{server_held, ReadPartOutcome};
 ghost use Rattle.servers.specs.Cited.{server_of};
 ghost use Rattle.profiles.specs.Cited.{reading_of, ServerFile, CurveFile, Holds, Decoded, ReadAlone};
 
-use crate::{Profile, bits};
+use crate::Profile;
+use crate::bits::{self, BitReader};
 use servers::Server;
 use settle::deliver;
 
@@ -46,12 +47,10 @@ fn decode(file: &[u8], count: usize, pairs: &mut [u64])
     requires room { length pairs.old ≡ 128 }
     ensures { Decoded file.now count pairs.new }
 {
-    let mut k = 0;
-    while k < count {
-        let at = 14 + 60 * k;
-        pairs[2 * k] = bits::take_field(file, at, 20);
-        pairs[2 * k + 1] = bits::take_field(file, at + 20, 40);
-        k += 1;
+    let mut reader = BitReader::at(file, 14);
+    for k in 0..count {
+        pairs[2 * k] = reader.take(20);
+        pairs[2 * k + 1] = reader.take(40);
     }
 }
 

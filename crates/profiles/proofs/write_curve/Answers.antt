@@ -10,9 +10,8 @@ returns-then-not-has_kind c = search (curve_writes, rules)
 pub returns-then-code-ne0 : goal.returns-then-code-ne0
 returns-then-code-ne0 c = search (curve_writes, rules)
 
-pub pack_curve-count-requires-clause-packable_curve :
-    goal.pack_curve-count-requires-clause-packable_curve
-pack_curve-count-requires-clause-packable_curve c = search (curve_writes, rules)
+pub pack_curve-writer-requires : goal.pack_curve-writer-requires
+pack_curve-writer-requires c = search (curve_writes, rules)
 
 pub returns : goal.returns
 returns c = search (curve_writes, rules)

@@ -10,8 +10,8 @@ returns-then-not-has_kind c = search (server_writes, rules)
 pub returns-then-code-ne0 : goal.returns-then-code-ne0
 returns-then-code-ne0 c = search (server_writes, rules)
 
-pub pack_server-count-requires : goal.pack_server-count-requires
-pack_server-count-requires c = search (server_writes, rules)
+pub pack_server-writer-requires : goal.pack_server-writer-requires
+pack_server-writer-requires c = search (server_writes, rules)
 
 pub returns : goal.returns
 returns c = search (server_writes, rules)
