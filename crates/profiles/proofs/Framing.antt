@@ -11,7 +11,7 @@ use lib.ListN.{length}
 use borrow.Author.Tests.{eqb-true, eqb-false, not-true, not-false}
 use mir.Syntax.{w64}
 use mir.Val.{Fits}
-use Rattle.meaning.specs.Refusal.{Verdict}
+use Rattle.meaning.specs.Refusal.{HEADER, LENGTH, PAD, number, Verdict}
 use Rattle.meaning.specs.Profile.{spelt, Known, field, edition_of, kind_in, bytes_taken, padding, file_lines}
 use Rattle.meaning.proofs.Profile.Bits.{one_spelt, spelt_one}
 use Rattle.meaning.proofs.Profile.Files.{binary_padding, padding_field}
@@ -33,12 +33,14 @@ found_right file is = record { refused = λ some. absurd (some refl); right = λ
 
 module _ {file : List ℕ} where
   -- the file is empty
-  pub header_empty : length file ≡ 0 → Tested file (RightHeader file) 1
+  pub header_empty : length file ≡ 0 → Tested file (RightHeader file) (number HEADER)
+  unfolding number
   header_empty h = found_wrong file (lit≤ tt) (header_wrong file (inl h))
 
   module _ {ed kind : ℕ} (e : ed ≡ edition_of file) (k : kind ≡ kind_in file) {answer : Bool} (t : Tells (Known ed kind) answer) where
     -- the edition has no such kind,
-    pub header_unknown : not answer ≡ true → Tested file (RightHeader file) 1
+    pub header_unknown : not answer ≡ true → Tested file (RightHeader file) (number HEADER)
+    unfolding number
     header_unknown n =
         found_wrong file (lit≤ tt) (header_wrong file (inr (λ known. t.no_means (not-true answer n) (rw (e, k) known))))
 
@@ -105,14 +107,16 @@ module _ {file : List ℕ} {code : ℕ} (v : Tested file (RightHeader file) code
 
   module _ (right : code ≡ 0) {answer : Bool} (t : Tells (Whole file) answer) where
     -- the byte count is another
-    pub frame_length : not answer ≡ true → Tested file (Framed file) 2
+    pub frame_length : not answer ≡ true → Tested file (Framed file) (number LENGTH)
+    unfolding number
     frame_length n =
         found_wrong file (lit≤ tt)
         (length_wrong file (v.right right) (λ h. t.no_means (not-true answer n) (record { is = h })))
 
     module _ (n : not answer ≡ false) {bits : ℕ} (p : bits ≡ spelt (padding file)) where
       -- a padding bit is 1
-      pub frame_pad : (bits ≡ 0 → ⊥) → Tested file (Framed file) 3
+      pub frame_pad : (bits ≡ 0 → ⊥) → Tested file (Framed file) (number PAD)
+      unfolding number
       frame_pad some =
           found_wrong file (lit≤ tt)
           (pad_wrong file (v.right right) (told_whole t n).is

@@ -4,14 +4,14 @@ use mathlib.Core.Path.{◌≡◌, refl, sym, ◌∙◌, ap}
 use mathlib.Core.Bool.{Bool, true, false, not}
 use mathlib.Core.Logic.{inl, inr}
 use mathlib.Core.List.{List, ◌++◌}
-use Prim.Native.Nat.{ℕ, ◌≤◌, ◌<◌}
+use Prim.Native.Nat.{ℕ, ◌^◌, ◌≤◌, ◌<◌}
 use native.Mathlib.Omega.{arith}
 use lib.Dec.{lit≤}
 use lib.ListN.{length, drop}
 use borrow.Author.Tests.{not-true, not-false}
 use Rattle.meaning.specs.Curve.{curve_of}
 use Rattle.meaning.specs.Server.{Server, Numbers, numbers_of}
-use Rattle.meaning.specs.Refusal.{Refusal, Lines, Clear, Verdict, curve_lines, over, BytesQuestion, bytes_lines, BytesOutcome}
+use Rattle.meaning.specs.Refusal.{Refusal, HEADER, ROOM, number, Lines, Clear, Verdict, curve_lines, over, BytesQuestion, bytes_lines, BytesOutcome}
 use Rattle.meaning.specs.ServerQuestions.{server_lines}
 use Rattle.meaning.specs.Profile.{Profile, curve, server, kind_of, Known, written, writing, WriteCurveOutcome, WriteServerOutcome}
 use Rattle.meaning.proofs.Outcome.Outcomes.{Single, Same, UpTo}
@@ -21,10 +21,10 @@ use Rattle.meaning.proofs.Outcome.Bytes.{one_bytes, refuse_bytes, no_room_bytes,
 use Rattle.meaning.proofs.Profile.Refusals.{edition_code, operand_code, write_up_to}
 use Rattle.meaning.proofs.Profile.RoundTrip.{edition_fits}
 use Rattle.checks.specs.Cited.{Tells}
-use Rattle.checks.proofs.Checks.{passed, curve_ranged, curve_some, curve_few}
+use Rattle.checks.proofs.Checks.{passed}
 use Rattle.servers.specs.Cited as of_servers
 use Rattle.servers.proofs.Joins.{server_ranged}
-use Rattle.profiles.specs.Cited.{padded, whole_bytes, RangedServer, server_bits, RangedCurve, curve_bits, handing}
+use Rattle.profiles.specs.Cited.{padded, whole_bytes, RangedServer, server_bits, curve_bits, handing}
 use Rattle.profiles.proofs.Packs.{whole_padded}
 
 -- ---- Bytes as they are.
@@ -36,8 +36,8 @@ single_handing bytes f g e e' = e ∙ sym e'
 
 module _ (bytes : List ℕ) {before : List ℕ} where
   -- the buffer is too short
-  pub handed_short : length before < length bytes → BytesOutcome (handing bytes) before before 10 0
-  unfolding handing
+  pub handed_short : length before < length bytes → BytesOutcome (handing bytes) before before (number ROOM) 0
+  unfolding handing number
   handed_short short = no_room_bytes (handing bytes) before (λ r h. h) refl short
 
   -- they are written
@@ -100,7 +100,8 @@ module _ (ask : BytesQuestion) {bytes : List ℕ} (clear : Clear ask.operands) (
 
 module _ (ed : ℕ) (operands : Lines) (p : Profile) (upto : UpTo 8 operands) {answer : Bool} (t : Tells (Known ed (kind_of p)) answer) where
   -- the edition has no such kind,
-  edition_refused : {before : List ℕ} → not answer ≡ true → BytesOutcome (writing ed operands p) before before 1 0
+  edition_refused : {before : List ℕ} → not answer ≡ true → BytesOutcome (writing ed operands p) before before (number HEADER) 0
+  unfolding number
   edition_refused n =
       refuse_bytes (writing ed operands p) _ (write_up_to ed operands p upto) (lit≤ tt)
       (edition_code ed operands p (t.no_means (not-true answer n)))
@@ -126,24 +127,18 @@ module _ (ed : ℕ) (operands : Lines) (p : Profile) (upto : UpTo 8 operands) {a
 
 module _ {ed : ℕ} (l : List ℕ) {answer : Bool} (t : Tells (Known ed 1) answer) where
   -- the edition has no curves
-  pub write_curve_header : {before : List ℕ} → not answer ≡ true → WriteCurveOutcome ed l before before 1 0
+  pub write_curve_header : {before : List ℕ} → not answer ≡ true → WriteCurveOutcome ed l before before (number HEADER) 0
   write_curve_header n = edition_refused ed (curve_lines l) (curve (curve_of l)) (curve_up_to l) t n
 
   module _ (n : not answer ≡ false) where
+    -- it fits its field
+    pub write_curve_early : ed < 2 ^ 4
+    write_curve_early = edition_fits (t.yes_means (not-false answer n))
+
     module _ {code : ℕ} (v : Verdict (curve_lines l) code) where
       -- the curve is refused
       pub write_curve_refused : {before : List ℕ} → (code ≡ 0 → ⊥) → WriteCurveOutcome ed l before before code 0
       write_curve_refused some = operand_refused ed (curve_lines l) (curve (curve_of l)) (curve_up_to l) t n v some
-
-      -- it can be packed,
-      pub write_curve_ranged : code ≡ 0 → RangedCurve ed l
-      write_curve_ranged right =
-          record {
-            early = edition_fits (t.yes_means (not-false answer n));
-            ranged = curve_ranged l (passed v right);
-            some = curve_some l (passed v right);
-            few = curve_few l (passed v right);
-          }
 
       -- and handed over
       pub write_curve_handed :
@@ -154,7 +149,7 @@ module _ {ed : ℕ} (l : List ℕ) {answer : Bool} (t : Tells (Known ed 1) answe
           operand_handed ed (curve_lines l) (curve (curve_of l)) (curve_up_to l) t n v right
           (f ∙ ap whole_bytes e ∙ whole_padded ed (curve (curve_of l))) o
 
-pub ruleset curve_writes = (write_curve_header, write_curve_refused, write_curve_ranged, write_curve_handed)
+pub ruleset curve_writes = (write_curve_header, write_curve_refused, write_curve_early, write_curve_handed)
 
 -- ---- A server.
 
@@ -164,7 +159,7 @@ module _ {ed : ℕ} (s : Server) {k : Numbers} (e : k ≡ numbers_of s) {answer 
   of_server = rw e at t
 
   -- the edition has no such kind
-  pub write_server_header : {before : List ℕ} → not answer ≡ true → WriteServerOutcome ed s before before 1 0
+  pub write_server_header : {before : List ℕ} → not answer ≡ true → WriteServerOutcome ed s before before (number HEADER) 0
   write_server_header n = edition_refused ed (server_lines s) (server s) (server_up_to s) of_server n
 
   module _ (n : not answer ≡ false) {code : ℕ} (v : of_servers.Tested s code) where

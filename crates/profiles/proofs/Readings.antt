@@ -23,8 +23,7 @@ use Rattle.checks.proofs.Checks.{passed}
 use Rattle.servers.specs.Cited as of_servers
 use Rattle.settle.specs.Cited.{delivering}
 use Rattle.settle.proofs.Delivering.{delivery_clear}
-use Rattle.profiles.specs.declared.Profile as held_profile
-use Rattle.profiles.specs.Cited.{InFile, count_in, Counts, Framed, Tested, reading_of, refused_reading, ServerFile, CurveFile, Holds, Decoded, ReadAlone}
+use Rattle.profiles.specs.Cited.{InFile, count_in, Counts, Framed, Tested, refused_reading, ServerFile, CurveFile, Holds, ReadAlone}
 use Rattle.profiles.proofs.Header.{taken_by_curve, taken_bytes}
 
 -- ---- Refusals.
@@ -47,14 +46,6 @@ refused_file file {at} {room} {table} some v =
       told = (read_refused file [] some v).told;
     }
 
--- what is told then: the number, no server, and 0 for the rest
-pub told_none :
-    {code : ℕ} {s : Server} → s ≡ no_server
-    → record { code = code; edition = 0; kind = 0; count = 0; server = s } ≡ refused_reading code
-told_none e = rw e
-
-pub ruleset refusals = (told_none)
-
 -- the frame is refused
 pub frame_refused :
     {file : List ℕ} {at room : ℕ} {table : List ℕ} {code : ℕ} {x : Reading} → Tested file (Framed file) code → (code ≡ 0 → ⊥)
@@ -62,14 +53,14 @@ pub frame_refused :
 frame_refused {file} t some e = rw e (refused_file file (omega (arith, some)) (t.refused some))
 
 -- It is not:
-module _ {file : List ℕ} {code : ℕ} (t : Tested file (Framed file) code) (right : code ≡ 0) {kind : ℕ} (k : kind ≡ kind_in file) where
+module _ {file : List ℕ} (t : Tested file (Framed file) 0) {kind : ℕ} (k : kind ≡ kind_in file) where
   -- the file is a server's,
   pub framed_server : (kind ≡ 1 → ⊥) → ServerFile file
-  framed_server other = record { frame = t.right right; kind = λ h. other (k ∙ h) }
+  framed_server other = record { frame = t.right refl; kind = λ h. other (k ∙ h) }
 
   -- or a curve's
   pub framed_curve : kind ≡ 1 → CurveFile file
-  framed_curve is = record { frame = t.right right; kind = sym k ∙ is }
+  framed_curve is = record { frame = t.right refl; kind = sym k ∙ is }
 
 -- then what the profile is refused with is the file's refusal
 profile_verdict : {file : List ℕ} → Framed file → {code : ℕ} → Verdict (profile_lines (profile_of file)) code → Verdict (file_lines file) code
@@ -121,20 +112,17 @@ module _ {file : List ℕ} (w : ServerFile file) where
     tested_server = profile_verdict w.frame (rw holds_server v.verdict)
 
     -- it is out of range
-    pub server_file_refused : {x : held_profile.Profile} → (code ≡ 0 → ⊥) → reading_of x ≡ refused_reading code → ReadAlone file x
-    server_file_refused some e' =
-        record { outcome = λ at room table. rw e' (refused_file file (omega (arith, some)) tested_server) }
+    pub server_file_refused : (code ≡ 0 → ⊥) → ReadAlone file (refused_reading code)
+    server_file_refused some =
+        record { outcome = λ at room table. refused_file file (omega (arith, some)) tested_server }
 
     -- it is read
     pub server_file_read :
-        {x : held_profile.Profile} {ed kind : ℕ} → code ≡ 0 → ed ≡ edition_of file → kind ≡ kind_in file
-        → reading_of x ≡ record { code = 0; edition = ed; kind = kind; count = 0; server = s } → ReadAlone file x
+        {ed : ℕ} → code ≡ 0 → ed ≡ edition_of file
+        → ReadAlone file (record { code = 0; edition = ed; kind = kind_of (server s); count = 0; server = s })
     unfolding over list_of flat
-    server_file_read right first k e' = record { outcome = rw (e', first, k ∙ own_kind) (beside alone) }
+    server_file_read right first = record { outcome = rw first (beside alone) }
       where
-        own_kind : kind_in file ≡ kind_of (server s)
-        own_kind = rw holds_server at (held_kind file w.frame.header.known.1)
-
         alone :
             (before : List ℕ)
             → ReadOutcome file before before
@@ -188,7 +176,7 @@ module _ {file : List ℕ} (w : CurveFile file) {n : ℕ} (count : Counts file n
         few = count.few;
       }
 
-  module _ {pairs : List ℕ} (d : Decoded file n pairs) where
+  module _ {pairs : List ℕ} (d : pairs ≡ flat (buckets_in file 14 n)) where
     -- the buckets are so many,
     size : length (buckets_in file 14 n) ≡ n
     size = length_buckets_in file 14 n
@@ -203,22 +191,21 @@ module _ {file : List ℕ} (w : CurveFile file) {n : ℕ} (count : Counts file n
     unfolding count_in
     holds_curve = held_curve file w.kind ∙ ap (λ (m : ℕ). curve (buckets_in file 14 m)) (sym count.is)
 
-    module _ {code : ℕ} (v : Verdict (curve_lines (take (2 * n) pairs)) code) where
+    module _ {code : ℕ} (v : Verdict (curve_lines pairs) code) where
       -- they are tested for normal form
       tested : Verdict (profile_lines (curve (buckets_in file 14 n))) code
       tested =
-          pairs_as_curve_list (buckets_in file 14 n) one_at_least (omega (arith, size, count.few)) (rw d.is at v)
+          pairs_as_curve_list (buckets_in file 14 n) one_at_least (omega (arith, size, count.few)) (rw d at v)
 
       -- it is not in normal form
       pub curve_file_refused :
-          {at room : ℕ} {table : List ℕ} {x : Reading} → (code ≡ 0 → ⊥) → x ≡ refused_reading code
-          → ReadPartOutcome file at room table table x
-      curve_file_refused some e =
-          rw e (refused_file file (omega (arith, some)) (profile_verdict w.frame (rw holds_curve tested)))
+          {at room : ℕ} {table : List ℕ} → (code ≡ 0 → ⊥) → ReadPartOutcome file at room table table (refused_reading code)
+      curve_file_refused some =
+          (refused_file file (omega (arith, some)) (profile_verdict w.frame (rw holds_curve tested)))
 
       module _
           (right : code ≡ 0) {at room : ℕ} {table after : List ℕ} {told found : ℕ}
-          (o : PartOutcome (delivering (take (2 * n) pairs)) at room table after told found)
+          (o : PartOutcome (delivering pairs) at room table after told found)
         where
           -- no line of the file holds
           clear : Clear (file_lines file)
@@ -226,12 +213,11 @@ module _ {file : List ℕ} (w : CurveFile file) {n : ℕ} (count : Counts file n
 
           -- so what comes of handing them over comes of reading
           read_so : PartOutcome (reading file) at room table after told found
-          read_so = delivered_reading file clear (buckets_in file 14 n) one_at_least holds_curve (rw d.is at o)
+          read_so = delivered_reading file clear (buckets_in file 14 n) one_at_least holds_curve (rw d at o)
 
           -- the part has no room for it
-          pub curve_file_short : {x : Reading} → (told ≡ 0 → ⊥) → x ≡ refused_reading told → ReadPartOutcome file at room table after x
-          curve_file_short some e =
-              rw e
+          pub curve_file_short : (told ≡ 0 → ⊥) → ReadPartOutcome file at room table after (refused_reading told)
+          curve_file_short some =
               (record {
                 list = subst (PartOutcome (reading file) at room table after told) (refusal_keeps_table read_so some).1 read_so;
                 told = record { accepted = λ z. absurd (some z); refused = λ _. (refl, refl, refl) };
@@ -239,11 +225,10 @@ module _ {file : List ℕ} (w : CurveFile file) {n : ℕ} (count : Counts file n
 
           -- it is read
           pub curve_file_read :
-              {x : Reading} {ed : ℕ} {s : Server} → told ≡ 0 → ed ≡ edition_of file → s ≡ no_server
-              → x ≡ record { code = 0; edition = ed; kind = 1; count = found; server = s }
-              → ReadPartOutcome file at room table after x
-          curve_file_read zero_code first none e =
-              rw (e, first, none)
+              {ed : ℕ} → told ≡ 0 → ed ≡ edition_of file
+              → ReadPartOutcome file at room table after (record { code = 0; edition = ed; kind = 1; count = found; server = no_server })
+          curve_file_read zero_code first =
+              rw first
               (record {
                 list = rw zero_code at read_so;
                 told = record { accepted = λ _. rw holds_curve (refl, refl, refl); refused = λ z. absurd (z refl) };
@@ -256,12 +241,6 @@ pub read_whole :
     (file : List ℕ) {before after : List ℕ} {x : Reading} → ReadPartOutcome file 0 (length before) before after x
     → ReadOutcome file before after x
 read_whole file o = record { list = whole_list (reading file) o.list; told = o.told }
-
--- a server's file, read beside the table
-pub read_alone :
-    {file : List ℕ} {at room : ℕ} {table : List ℕ} {x : held_profile.Profile} → ReadAlone file x
-    → ReadPartOutcome file at room table table (reading_of x)
-read_alone o = o.outcome _ _ _
 
 -- LARGE is never told: a file has at most 64 buckets, and each is in range
 pub read_never_large :
@@ -283,9 +262,3 @@ read_never_large {file} {before} {x = x} o e = told (outcome_code o.list)
     told (rejected r w is) = none r (sym is ∙ e) w.holds
 
 pub ruleset server_held_rules = (first_inside, held_delay, latency_inside, held_rate)
-
-pub ruleset server_files = (server_file_refused, server_file_read)
-
-pub ruleset curve_files = (curve_holds, curve_file_refused, curve_file_short, curve_file_read)
-
-pub ruleset files = (frame_refused, framed_server, framed_curve, read_whole, read_alone)

@@ -1,15 +1,19 @@
 -- What the contracts of this crate's own functions cite, beside the definitions of the crate meaning.
 -- Assumes nothing.
-use Rattle.std.specs.Prelude.{◌≡◌, ◌≢◌, ℕ, ◌+◌, ◌-◌, ◌*◌, ◌/◌, ◌%◌, ◌^◌, ◌≤◌, ◌<◌, length, take, replicate}
+use Rattle.std.specs.Prelude.{◌≡◌, ◌≢◌, Result, Ok, Err, ℕ, ◌+◌, ◌-◌, ◌*◌, ◌/◌, ◌%◌, ◌^◌, ◌≤◌, ◌<◌, length, take, replicate}
 use mathlib.Core.List.{List, ◌++◌, Memᴰ}
-use Rattle.meaning.specs.Curve.{flat, curve_of}
+use Rattle.meaning.specs.Curve.{curve_of}
 use Rattle.meaning.specs.Server.{Server, no_server}
 use Rattle.meaning.specs.ServerQuestions.{ServerInRange}
-use Rattle.meaning.specs.Refusal.{Verdict, AllInRange, BytesQuestion}
-use Rattle.meaning.specs.Profile.{bits_of, file_bits, bytes_of, curve_kind, curve, server, profile_bits, field, buckets_in, edition_of, kind_in, profile_of, bytes_taken, padding, file_lines, Reading, ReadPartOutcome}
+use Rattle.meaning.specs.Refusal.{number, Verdict, BytesQuestion}
+use Rattle.meaning.specs.Profile.{bits_of, file_bits, bytes_of, curve_kind, kind_of, curve, server, profile_bits, field, edition_of, kind_in, profile_of, bytes_taken, padding, file_lines, Reading, ReadPartOutcome}
 use Rattle.meaning.proofs.Profile.RoundTrip.{RightHeader}
+use Rattle.checks.specs.Table.{line_of}
+use Rattle.checks.specs.declared.refusal.Refusal.{Refusal}
 use Rattle.servers.specs.Cited.{server_of}
-use Rattle.profiles.specs.declared.Profile as held_profile
+use Rattle.profiles.specs.declared.Held.{Held}
+use Rattle.profiles.specs.declared.Held.TheVariants.{Curve, Server as OfServer}
+use Rattle.profiles.specs.declared.Profile.{Profile}
 
 -- ---- A field.
 
@@ -52,14 +56,18 @@ pub record Tested (file : List ℕ) (P : Type 0) (code : ℕ) : Type 0 where
 
 -- ---- Reading.
 
--- What code holds as a reading.
-abbrev pub reading_of : held_profile.Profile → Reading
-reading_of x =
-    record { code = x.code; edition = x.edition; kind = x.kind; count = x.count; server = server_of x.server }
-
 -- A refusal with its number: no server, and 0 for the rest.
 abbrev pub refused_reading : ℕ → Reading
 refused_reading code = record { code = code; edition = 0; kind = 0; count = 0; server = no_server }
+
+-- What code answers as a reading: of a curve its count, and no server; of a server itself, and no count; and a refusal.
+abbrev pub holding : ℕ → Held → Reading
+holding ed (Curve n) = record { code = 0; edition = ed; kind = curve_kind; count = n; server = no_server }
+holding ed (OfServer s) = record { code = 0; edition = ed; kind = kind_of (server (server_of s)); count = 0; server = server_of s }
+
+abbrev pub reading_of : Result Profile Refusal → Reading
+reading_of (Ok x) = holding x.edition x.held
+reading_of (Err r) = refused_reading (number (line_of r))
 
 -- A server's file whose frame is right,
 pub record ServerFile (file : List ℕ) : Type 0 where
@@ -76,13 +84,9 @@ pub record Holds (file : List ℕ) (count : ℕ) : Type 0 where
   pub inside : 14 + 60 * count ≤ 8 * length file
   pub few : count ≤ 64
 
--- The numbers of so many buckets of a file stand at the start of a list.
-pub record Decoded (file : List ℕ) (count : ℕ) (pairs : List ℕ) : Type 0 where
-  pub is : take (2 * count) pairs ≡ flat (buckets_in file 14 count)
-
 -- A file is read, and every list that is lent stays.
-pub record ReadAlone (file : List ℕ) (x : held_profile.Profile) : Type 0 where
-  pub outcome : (at room : ℕ) (table : List ℕ) → ReadPartOutcome file at room table table (reading_of x)
+pub record ReadAlone (file : List ℕ) (x : Reading) : Type 0 where
+  pub outcome : (at room : ℕ) (table : List ℕ) → ReadPartOutcome file at room table table x
 
 -- ---- Packing.
 
@@ -118,13 +122,6 @@ pub record RangedServer (ed : ℕ) (s : Server) : Type 0 where
 -- The server's bits.
 unfoldable pub server_bits : ℕ → Server → List ℕ
 server_bits ed s = profile_bits ed (server s)
-
--- An edition that fits its field, and the list of a curve of 1 to 64 buckets that are in range.
-pub record RangedCurve (ed : ℕ) (l : List ℕ) : Type 0 where
-  pub early : ed < 2 ^ 4
-  pub ranged : AllInRange (curve_of l)
-  pub some : 1 ≤ length (curve_of l)
-  pub few : length (curve_of l) ≤ 64
 
 -- The bits before a curve's buckets: edition, kind, count minus one.
 unfoldable pub head_bits : ℕ → ℕ → List ℕ

@@ -3,23 +3,24 @@
 ghost use Rattle.std.specs.Prelude.{◌≡◌};
 ghost use Rattle.meaning.specs.Profile.{spelt, padding};
 ghost use Rattle.checks.specs.Cited.{Tells};
+ghost use Rattle.checks.specs.Table.{code_of};
 ghost use Rattle.meaning.proofs.Profile.RoundTrip.{RightHeader};
 ghost use Rattle.profiles.specs.Cited.{Whole, Framed, Tested};
 
 use crate::bits;
-use checks::limits;
+use checks::Refusal;
 
-// HEADER, or 0.
-fn header(file: &[u8]) -> u64
-    ensures { Tested file.now (RightHeader file.now) result }
+// Tests edition and kind.
+fn header(file: &[u8]) -> Result<(), Refusal>
+    ensures { Tested file.now (RightHeader file.now) (code_of result) }
 {
-    if file.len() == 0 {
-        return limits::HEADER;
+    if file.is_empty() {
+        return Err(Refusal::Header);
     }
     if !crate::has_kind(crate::edition_in(file), crate::kind_in(file)) {
-        return limits::HEADER;
+        return Err(Refusal::Header);
     }
-    0
+    Ok(())
 }
 
 // Whether the byte count is what kind and count require.
@@ -38,19 +39,16 @@ fn padding_in(file: &[u8]) -> u64
     bits::take_field(file, end, 8 * file.len() - end)
 }
 
-// HEADER, LENGTH, PAD, or 0.
-pub(crate) fn refusal(file: &[u8]) -> u64
-    ensures { Tested file.now (Framed file.now) result }
+// Tests header, byte count and padding.
+pub(crate) fn refusal(file: &[u8]) -> Result<(), Refusal>
+    ensures { Tested file.now (Framed file.now) (code_of result) }
 {
-    let code = header(file);
-    if code != 0 {
-        return code;
-    }
+    header(file)?;
     if !is_whole(file) {
-        return limits::LENGTH;
+        return Err(Refusal::Length);
     }
     if padding_in(file) != 0 {
-        return limits::PAD;
+        return Err(Refusal::Pad);
     }
-    0
+    Ok(())
 }

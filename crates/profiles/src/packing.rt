@@ -3,8 +3,9 @@ ghost use Rattle.std.specs.Prelude.{◌≡◌, ◌++◌, ◌+◌, ◌*◌, ◌^�
 ghost use Rattle.meaning.specs.Server.{port, pure_delay};
 ghost use Rattle.meaning.specs.Profile.{bits_of};
 ghost use Rattle.servers.specs.Cited.{server_of};
-ghost use Rattle.profiles.specs.Cited.{packed_bits, WellPacked, padded, whole_bytes, head_bits, RangedServer, server_bits, RangedCurve, curve_bits};
+ghost use Rattle.profiles.specs.Cited.{packed_bits, WellPacked, padded, whole_bytes, head_bits, RangedServer, server_bits, curve_bits};
 
+use checks::Curve;
 use servers::{Kind, Server};
 use std::marker::Model;
 
@@ -119,8 +120,7 @@ pub(crate) fn pack_server(edition: u64, server: Server) -> BitWriter<6>
     requires { RangedServer edition (server_of server) }
     ensures { result ≡ padded (server_bits edition (server_of server)) }
 {
-    let kind = server.kind;
-    match kind {
+    match server.kind {
         Kind::RateLatency { rate, latency } => pack_rated(edition, rate, latency),
         Kind::PureDelay { latency } => pack_delay(edition, latency),
     }
@@ -140,14 +140,14 @@ fn pack_head(edition: u64, count: usize) -> BitWriter<482>
 }
 
 // Packs a curve: its head, its buckets one after the other, and zero bits up to the byte's end.
-pub(crate) fn pack_curve(edition: u64, curve: &[u64]) -> BitWriter<482>
-    requires { RangedCurve edition curve.now }
-    ensures { result ≡ padded (curve_bits edition curve.now) }
+pub(crate) fn pack_curve(edition: u64, curve: Curve<'_>) -> BitWriter<482>
+    requires { edition < 2 ^ 4 }
+    ensures { result ≡ padded (curve_bits edition curve.entry.list.now) }
 {
-    let count = checks::bucket_count(curve);
+    let count = curve.count();
     let mut writer = pack_head(edition, count);
     for k in 0..count {
-        let bucket = checks::bucket_at(curve, k);
+        let bucket = curve.bucket(k);
         writer.put(20, bucket.rate);
         writer.put(40, bucket.burst);
     }

@@ -1,14 +1,18 @@
 // The profile in a file whose frame is right: a server, or a curve that is decoded into local memory, tested, and only then handed
 // over.
-ghost use Rattle.std.specs.Prelude.{◌≡◌, length};
-ghost use Rattle.meaning.specs.Profile.{server_held, ReadPartOutcome};
+ghost use Rattle.std.specs.Prelude.{◌≡◌, []};
+ghost use Rattle.meaning.specs.Curve.{flat};
+ghost use Rattle.meaning.specs.Profile.{server_held, buckets_in, ReadPartOutcome};
 ghost use Rattle.servers.specs.Cited.{server_of};
-ghost use Rattle.profiles.specs.Cited.{reading_of, ServerFile, CurveFile, Holds, Decoded, ReadAlone};
+ghost use Rattle.profiles.specs.Cited.{reading_of, ServerFile, CurveFile, Holds, ReadAlone};
 
-use crate::Profile;
 use crate::bits::{self, BitReader};
+use crate::{Held, Profile};
+use arrayvec::ArrayVec;
+use checks::Refusal;
 use servers::Server;
-use settle::deliver;
+use settle::Part;
+use settle::deliver::deliver;
 
 // The server that a file holds: of kind 3 a pure delay, or else rate-latency.
 fn held(file: &[u8]) -> Server
@@ -23,59 +27,42 @@ fn held(file: &[u8]) -> Server
 }
 
 // Reads a server.
-pub(crate) fn server(file: &[u8]) -> Profile
+pub(crate) fn server(file: &[u8]) -> Result<Profile, Refusal>
     requires { ServerFile file.now }
-    ensures { ReadAlone file.now result }
+    ensures { ReadAlone file.now (reading_of result) }
 {
     let server = held(file);
-    let code = server.refusal();
-    if code != 0 {
-        return crate::refused(code);
-    }
-    Profile {
-        code: 0,
+    server.refusal()?;
+    Ok(Profile {
         edition: crate::edition_in(file),
-        kind: crate::kind_in(file),
-        count: 0,
-        server,
-    }
+        held: Held::Server(server),
+    })
 }
 
-// Takes the rates and bursts of so many buckets from a file, one after the other.
-fn decode(file: &[u8], count: usize, pairs: &mut [u64])
+// Takes the rates and bursts of so many buckets from a file, one after the other, into an empty list.
+fn decode(file: &[u8], count: usize, pairs: &mut ArrayVec<u64, 128>)
     requires holds { Holds file.now count }
-    requires room { length pairs.old ≡ 128 }
-    ensures { Decoded file.now count pairs.new }
+    requires empty { pairs.old.items ≡ [] }
+    ensures { pairs.new.items ≡ flat (buckets_in file.now 14 count) }
 {
     let mut reader = BitReader::at(file, 14);
-    for k in 0..count {
-        pairs[2 * k] = reader.take(20);
-        pairs[2 * k + 1] = reader.take(40);
+    for _ in 0..count {
+        pairs.push(reader.take(20));
+        pairs.push(reader.take(40));
     }
 }
 
-// Reads a curve, into the part of the table that is the `room` numbers from `at`, as far as the table has them.
-pub(crate) fn curve(file: &[u8], table: &mut [u64], at: usize, room: usize) -> Profile
+// Reads a curve, into a part of a table.
+pub(crate) fn curve(file: &[u8], table: &mut [u64], part: Part) -> Result<Profile, Refusal>
     requires { CurveFile file.now }
-    ensures { ReadPartOutcome file.now at room table.old table.new (reading_of result) }
+    ensures { ReadPartOutcome file.now part.at part.room table.old table.new (reading_of result) }
 {
-    let mut pairs = [0u64; 128];
-    let count = crate::count_in(file);
-    decode(file, count, &mut pairs);
-    let end = 2 * count;
-    let form = checks::curve(&pairs[..end]);
-    if form != 0 {
-        return crate::refused(form);
-    }
-    let answer = deliver::deliver(&pairs[..end], table, at, room);
-    if answer.code != 0 {
-        return crate::refused(answer.code);
-    }
-    Profile {
-        code: 0,
+    let mut pairs = ArrayVec::new();
+    decode(file, crate::count_in(file), &mut pairs);
+    checks::curve(pairs.as_slice())?;
+    let count = deliver(pairs.as_slice(), table, part)?;
+    Ok(Profile {
         edition: crate::edition_in(file),
-        kind: crate::CURVE,
-        count: answer.count,
-        server: servers::rated(0, 0),
-    }
+        held: Held::Curve(count),
+    })
 }

@@ -4,11 +4,11 @@ use Rattle.profiles.proofs.Header.{sizes}
 use Rattle.std.proofs.Common.{rules}
 use Rattle.profiles.proofs.bits_taken.Goals as goal
 
-pub returns-then-kind-eq-CURVE : goal.returns-then-kind-eq-CURVE
-returns-then-kind-eq-CURVE c = search (sizes, rules)
+pub returns-in-1 : goal.returns-in-1
+returns-in-1 c = search (sizes, rules)
 
-pub returns-then-kind-eq-PURE_DELAY : goal.returns-then-kind-eq-PURE_DELAY
-returns-then-kind-eq-PURE_DELAY c = search (sizes, rules)
+pub returns-in-3 : goal.returns-in-3
+returns-in-3 c = search (sizes, rules)
 
-pub returns : goal.returns
-returns c = search (sizes, rules)
+pub returns-in_default : goal.returns-in_default
+returns-in_default c = search (sizes, rules)
