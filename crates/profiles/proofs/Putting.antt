@@ -65,10 +65,11 @@ unfolding packed_bits file_bits packed bits_of
 packed_none bytes = refl
 
 -- The bits that are to be packed stand in the bytes that are full, and in the low bits of the whole that are pending.
-pub record Putting (n : ℕ) (old : List ℕ) (width x : ℕ) (bytes : List ℕ) (end whole i pending : ℕ) : Type 0 where
+pub record Putting (n : ℕ) (old : List ℕ) (width x : ℕ) (bytes : List ℕ) (end last whole i pending : ℕ) : Type 0 where
   pub long : length bytes ≡ n
   pub near : n ≤ 512
   pub inside : end ≤ 8 * n
+  pub last_is : last ≡ end / 8
   pub narrow : pending < 64
   pub place : 8 * i + pending ≡ end
   pub are_bytes : AreBytes (take i bytes)
@@ -106,13 +107,14 @@ module _
     put_fits = record { fits = rw shifted (lt_of_lt_of_le joined_fits (pow_mono {j = 64} (omega arith))) }
 
     -- no byte is written yet
-    pub put_start : Putting n old width x bytes (at + width) (left * 2 ^ width % 2 ^ 64 + x) (at / 8) (at % 8 + width)
+    pub put_start : Putting n old width x bytes (at + width) (at / 8 + (at % 8 + width) / 8) (left * 2 ^ width % 2 ^ 64 + x) (at / 8) (at % 8 + width)
     unfolding packed_bits
     put_start =
         record {
           long = p.long;
           near = p.near;
           inside = put_room;
+          last_is = omega arith;
           narrow = omega arith;
           place = omega arith;
           are_bytes = p.whole;
@@ -123,13 +125,13 @@ module _
         }
 
 module _
-    {n : ℕ} {old : List ℕ} {width x : ℕ} {bytes : List ℕ} {end whole i pending : ℕ}
-    (w : Putting n old width x bytes end whole i pending)
+    {n : ℕ} {old : List ℕ} {width x : ℕ} {bytes : List ℕ} {end last whole i pending : ℕ}
+    (w : Putting n old width x bytes end last whole i pending)
   where
-    module _ (more : i < end / 8) where
+    module _ (more : i < last) where
       -- a byte more is pending
       pub put_pending : 8 ≤ pending
-      put_pending = omega (arith, w.place)
+      put_pending = omega (arith, w.place, w.last_is)
 
       -- the next byte of the whole
       abbrev byte : ℕ
@@ -149,15 +151,16 @@ module _
 
       -- there is room for it
       pub put_inside : i < n
-      put_inside = omega (arith, w.inside)
+      put_inside = omega (arith, w.inside, w.last_is)
 
       -- it is written
-      pub put_step : Putting n old width x (set bytes i byte) end whole (i + 1) (pending - 8)
+      pub put_step : Putting n old width x (set bytes i byte) end last whole (i + 1) (pending - 8)
       put_step =
           record {
             long = length-set bytes i byte ∙ w.long;
             near = w.near;
             inside = w.inside;
+            last_is = w.last_is;
             narrow = put_shift;
             place = omega (arith, w.place, put_pending);
             are_bytes = rw longer (append_each {l = take i bytes} {r = byte ∷ []} w.are_bytes (λ y m. rw (Memᴰ.eq_of_singleton m) byte_fits));
@@ -189,9 +192,9 @@ module _
     pub put_modulus : 0 < 1 * 2 ^ pending % 2 ^ 64
     put_modulus = rw power (pow_pos pending)
 
-    module _ (all : end / 8 ≤ i) where
+    module _ (all : last ≤ i) where
       full : end / 8 ≡ i
-      full = omega (arith, w.place)
+      full = omega (arith, w.place, w.last_is)
 
       part : end % 8 ≡ pending
       part = omega (arith, w.place, full)

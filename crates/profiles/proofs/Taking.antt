@@ -64,60 +64,61 @@ middle file from before width behind h =
     ap (λ (n : ℕ). n % 2 ^ width) (front ∙ field_split file from before width (omega arith))
     ∙ low (field file from before) width (field_fits file (from + before) width)
 
--- The bytes that hold the field.
+-- The bytes that hold the field: so many, from its first one on.
 abbrev holding : List ℕ → ℕ → ℕ → List ℕ
-holding file at last = take (last - at / 8) (drop (at / 8) file)
+holding file at count = take (at / 8 + count - at / 8) (drop (at / 8) file)
 
 -- The first n of them are taken.
-pub record Taken (file : List ℕ) (at width last taken n : ℕ) : Type 0 where
+pub record Taken (file : List ℕ) (at width count taken n : ℕ) : Type 0 where
   pub field_in : InFile file at width
-  pub last_is : last ≡ (at + width + 7) / 8
-  pub sofar : at / 8 + n ≤ last
+  pub count_is : count ≡ (at % 8 + width + 7) / 8
+  pub sofar : n ≤ count
   pub is : taken ≡ field file (8 * (at / 8)) (8 * n)
 
 -- none is taken yet
 pub taken_start :
-    {file : List ℕ} {at width last : ℕ} → InFile file at width → last ≡ (at + width) / 8 + min 1 ((at + width) % 8)
-    → Taken file at width last 0 0
+    {file : List ℕ} {at width count : ℕ} → InFile file at width → count ≡ (at % 8 + width) / 8 + min 1 ((at % 8 + width) % 8)
+    → Taken file at width count 0 0
 unfolding field spelt
-taken_start h e = record { field_in = h; last_is = omega arith; sofar = omega (arith, e); is = refl }
+taken_start h e = record { field_in = h; count_is = omega (arith, e); sofar = omega arith; is = refl }
 
-module _ {file : List ℕ} {at width last taken n : ℕ} (w : Taken file at width last taken n) where
-  module _ (more : n < length (holding file at last)) (small : (i : ℕ) → Fits w8 (get_or file i 0)) where
-    -- there is one more
-    inside : at / 8 + n < last
-    inside = omega (arith, length-take (last - at / 8) (drop (at / 8) file))
+module _ {file : List ℕ} {at width count taken n : ℕ} (w : Taken file at width count taken n) where
+  module _ (more : n < length (holding file at count)) (small : (i : ℕ) → Fits w8 (get_or file i 0)) where
+    -- there is one more,
+    inside : n < count
+    inside = omega (arith, length-take (at / 8 + count - at / 8) (drop (at / 8) file))
 
     -- which lies in the file
     in_file : at / 8 + n < length file
-    in_file = omega (arith, inside, w.field_in.inside, w.last_is)
+    in_file = omega (arith, inside, w.field_in.inside, w.count_is)
 
     -- what is taken is small
     taken_small : taken < 2 ^ 40
     taken_small =
         rw w.is
         (lt_of_lt_of_le (field_fits file (8 * (at / 8)) (8 * n))
-        (pow_mono {j = 40} (omega (arith, inside, w.field_in.narrow, w.last_is))))
+        (pow_mono {j = 40} (omega (arith, inside, w.field_in.narrow, w.count_is))))
 
     -- the number fits
     pub taken_fits : Fits w64 (taken * 256)
     taken_fits = record { fits = omega (arith, taken_small) }
 
-    module _ {byte : ℕ} (next : byte ≡ get_or (holding file at last) n 0) where
+    module _ {byte : ℕ} (next : byte ≡ get_or (holding file at count) n 0) where
       -- the byte is the file's
       byte_is : byte ≡ get_or file (at / 8 + n) 0
-      byte_is = next ∙ get_or-take (last - at / 8) (drop (at / 8) file) n 0 (omega (arith, inside)) ∙ get_or-drop (at / 8) file n 0
+      byte_is =
+          next ∙ get_or-take (at / 8 + count - at / 8) (drop (at / 8) file) n 0 (omega (arith, inside)) ∙ get_or-drop (at / 8) file n 0
 
       -- so is what is taken with the next byte
       pub taken_sum_fits : Fits w64 (taken * 256 + byte)
       taken_sum_fits = record { fits = omega (arith, taken_small, byte_is, (small (at / 8 + n)).fits) }
 
       -- one more is taken
-      pub taken_step : Taken file at width last (taken * 256 + byte) (n + 1)
+      pub taken_step : Taken file at width count (taken * 256 + byte) (n + 1)
       taken_step =
           record {
             field_in = w.field_in;
-            last_is = w.last_is;
+            count_is = w.count_is;
             sofar = omega (arith, inside);
             is = rw (w.is, byte_is) one_more;
           }
@@ -146,18 +147,21 @@ module _ {file : List ℕ} {at width last taken n : ℕ} (w : Taken file at widt
 
   -- all are: the field is in the middle
   pub taken_end :
-      length (holding file at last) ≤ n → taken / 2 ^ (8 * last - (at + width)) % (1 * 2 ^ width % 2 ^ 64) ≡ field file at width
+      length (holding file at count) ≤ n
+      → taken / 2 ^ (8 * count - (at % 8 + width)) % (1 * 2 ^ width % 2 ^ 64) ≡ field file at width
   taken_end all =
-      rw (w.is, whole, power) (middle file (8 * (at / 8)) (at % 8) width (8 * last - (at + width)) (omega (arith, w.field_in.inside, w.last_is)) ∙ ap (λ (m : ℕ). field file m width) (omega arith))
+      rw (w.is, whole, power)
+      (middle file (8 * (at / 8)) (at % 8) width (8 * count - (at % 8 + width)) (omega (arith, w.field_in.inside, w.count_is))
+      ∙ ap (λ (m : ℕ). field file m width) (omega arith))
     where
-      whole : 8 * n ≡ at % 8 + width + (8 * last - (at + width))
+      whole : 8 * n ≡ at % 8 + width + (8 * count - (at % 8 + width))
       whole =
           omega (
             arith,
-            w.last_is,
+            w.count_is,
             w.sofar,
             w.field_in.inside,
-            length-take (last - at / 8) (drop (at / 8) file),
+            length-take (at / 8 + count - at / 8) (drop (at / 8) file),
             length-drop (at / 8) file,
           )
 

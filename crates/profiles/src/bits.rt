@@ -9,13 +9,14 @@ pub(crate) fn take_field(file: &[u8], at: usize, width: usize) -> u64
     requires { InFile file.now at width }
     ensures { result ≡ field file.now at width }
 {
-    let end = at + width;
-    let last = end.div_ceil(8);
+    let first = at / 8;
+    let held = at % 8 + width;
+    let count = held.div_ceil(8);
     let mut taken: u64 = 0;
-    for &byte in &file[at / 8..last] {
+    for &byte in &file[first..first + count] {
         taken = taken * 256 + u64::from(byte);
     }
-    let behind = 8 * last - end;
+    let behind = 8 * count - held;
     (taken >> behind) % (1u64 << width)
 }
 

@@ -53,8 +53,10 @@ impl<const N: usize> BitWriter<N> {
     {
         let whole = (self.left << width) + x;
         let end = self.at + width;
+        let first = self.at / 8;
         let mut pending = self.at % 8 + width;
-        for i in self.at / 8..end / 8 {
+        let last = first + pending / 8;
+        for i in first..last {
             pending -= 8;
             self.bytes[i] = ((whole >> pending) % 256) as u8;
         }

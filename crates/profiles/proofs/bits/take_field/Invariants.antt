@@ -4,4 +4,4 @@ use Rattle.profiles.proofs.Taking.{Taken}
 use Rattle.profiles.proofs.bits.take_field.Given as goal
 
 abbrev pub invariant-loop-byte : goal.invariant-loop-byte
-invariant-loop-byte l = Taken l.file l.at l.width l.last l.taken l.byte-index
+invariant-loop-byte l = Taken l.file l.at l.width l.count l.taken l.byte-index
