@@ -1,12 +1,12 @@
 -- Buckets taken from a file one after the other, their numbers put behind each other.
 -- Assumes nothing.
-use mathlib.Core.Path.{◌≡◌, refl, sym, ◌∙◌, ap}
+use mathlib.Core.Path.{◌≡◌, sym, ◌∙◌, ap}
 use mathlib.Core.List.{List, [], ◌∷◌, ◌++◌, append_assoc}
 use Prim.Native.Nat.{ℕ, suc, ◌+◌, ◌*◌, ◌≤◌, ◌<◌}
 use native.Mathlib.Numerals.{add-one}
 use native.Mathlib.Omega.{arith}
 use lib.Dec.{lit≤}
-use lib.ListN.{length}
+use lib.ListN.{length, length-append}
 use Rattle.meaning.specs.Curve.{flat}
 use Rattle.meaning.specs.Profile.{field, buckets_in}
 use Rattle.meaning.proofs.Lists.{flat_length}
@@ -48,8 +48,9 @@ module _ {file : List ℕ} {count : ℕ} {pairs held : List ℕ} {at k : ℕ} (w
     pub rate_room : length pairs < 128
     rate_room = omega (arith, so_many, w.holds.few)
 
-    pub burst_room : {rate : ℕ} {put : List ℕ} → put ≡ pairs ++ rate ∷ [] → {n : ℕ} → n ≡ length pairs + 1 → n < 128
-    burst_room e f = omega (arith, f, so_many, w.holds.few)
+    pub burst_room : (rate : ℕ) (put : List ℕ) → put ≡ pairs ++ rate ∷ [] → length put < 128
+    burst_room rate put e =
+        omega (arith, so_many, w.holds.few, ap length e, length-append pairs (rate ∷ []))
 
     module _ {held' : List ℕ} {at' : ℕ} (e : held' ≡ held) (f : at' ≡ at + 20) where
       -- the burst lies behind the rate

@@ -12,15 +12,16 @@ use lib.Seq.{take_all, take-suc, length-take-le}
 use Rattle.std.proofs.lemmas.List.{length-replicate}
 use Rattle.meaning.specs.Curve.{Bucket, curve_of}
 use Rattle.meaning.specs.Server.{pure_delay, port}
-use Rattle.meaning.specs.Refusal.{InRange, AllInRange}
+use Rattle.meaning.specs.Refusal.{Clear, InRange, AllInRange, curve_lines}
 use Rattle.meaning.specs.Profile.{bits_of, packed, file_bits, bytes_of, Profile, server, bucket_fields, fields, profile_bits, byte_count, written}
 use Rattle.meaning.proofs.Lists.{at_inside}
 use Rattle.meaning.proofs.Profile.Bits.{bits_taken, bits_dropped, spelt_bits}
 use Rattle.meaning.proofs.Profile.Files.{server_bits}
 use Rattle.checks.specs.Cited.{bucket_of, nth}
 use Rattle.checks.specs.declared.Bucket as held_bucket
+use Rattle.checks.proofs.Checks.{curve_ranged, curve_few}
 use Rattle.profiles.specs.Cited as cited
-use Rattle.profiles.specs.Cited.{packed_bits, AreBytes, WellPacked, padded, whole_bytes, RangedServer, RangedCurve, head_bits}
+use Rattle.profiles.specs.Cited.{packed_bits, AreBytes, WellPacked, padded, whole_bytes, RangedServer, head_bits}
 use Rattle.profiles.proofs.Putting.{packed_length}
 
 -- ---- Bytes.
@@ -129,7 +130,7 @@ fields_next (k ∷ f) b = simp append_assoc (ap (λ (l : List ℕ). bits_of 20 k
 
 -- The head and the first k buckets are packed.
 pub record Bucketing (ed : ℕ) (l : List ℕ) (count : ℕ) (bits : List ℕ) (k : ℕ) : Type 0 where
-  pub ranged : RangedCurve ed l
+  pub clear : Clear (curve_lines l)
   pub counted : count ≡ length (curve_of l)
   pub sofar : k ≤ count
   pub long : length bits ≡ 14 + 60 * k
@@ -137,26 +138,26 @@ pub record Bucketing (ed : ℕ) (l : List ℕ) (count : ℕ) (bits : List ℕ) (
 
 -- the head is
 pub buckets_start :
-    {ed : ℕ} {l : List ℕ} {count : ℕ} {bits : List ℕ} → RangedCurve ed l → count ≡ length (curve_of l) → bits ≡ head_bits ed count
+    {ed : ℕ} {l : List ℕ} {count : ℕ} {bits : List ℕ} → Clear (curve_lines l) → count ≡ length (curve_of l) → bits ≡ head_bits ed count
     → length bits ≡ 14 → Bucketing ed l count bits 0
 unfolding packed bucket_fields
 buckets_start r e f long =
-    record { ranged = r; counted = e; sofar = omega arith; long = long; done = f ∙ sym (append-nil (head_bits _ _)) }
+    record { clear = r; counted = e; sofar = omega arith; long = long; done = f ∙ sym (append-nil (head_bits _ _)) }
 
 module _ {ed : ℕ} {l : List ℕ} {count : ℕ} {bits : List ℕ} {k : ℕ} (w : Bucketing ed l count bits k) where
   module _ (more : k < count) where
     -- there is room for the next rate
     pub rate_room : length bits + 20 ≤ 3856
-    rate_room = omega (arith, w.long, w.counted, w.ranged.few)
+    rate_room = omega (arith, w.long, w.counted, curve_few l w.clear)
 
     -- and for the burst behind it
     pub burst_room : (v : List ℕ) → length v ≡ length bits + 20 → length v + 40 ≤ 3856
-    burst_room v e = omega (arith, e, w.long, w.counted, w.ranged.few)
+    burst_room v e = omega (arith, e, w.long, w.counted, curve_few l w.clear)
 
     module _ {b : held_bucket.Bucket} (e : bucket_of b ≡ nth (curve_of l) k) where
       -- the next bucket is in range
       ranged : InRange (bucket_of b)
-      ranged = rw e (nth_ranged (curve_of l) k w.ranged.ranged (omega (arith, w.counted)))
+      ranged = rw e (nth_ranged (curve_of l) k (curve_ranged l w.clear) (omega (arith, w.counted)))
 
       -- so its rate fits,
       pub rate_fits : b.rate < 2 ^ 20
@@ -172,7 +173,7 @@ module _ {ed : ℕ} {l : List ℕ} {count : ℕ} {bits : List ℕ} {k : ℕ} (w 
           → length u ≡ length v + 40 → Bucketing ed l count u (k + 1)
       buckets_step {v} {u} f f' g g' =
           record {
-            ranged = w.ranged;
+            clear = w.clear;
             counted = w.counted;
             sofar = omega arith;
             long = omega (arith, f', g', w.long);

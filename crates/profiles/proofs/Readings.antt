@@ -3,10 +3,10 @@
 use mathlib.Core.Path.{◌≡◌, refl, sym, ◌∙◌, ap, subst}
 use mathlib.Core.Logic.{inl, inr, ◌≢◌}
 use mathlib.Core.List.{List, []}
-use Prim.Native.Nat.{ℕ, ◌*◌, ◌≤◌}
+use Prim.Native.Nat.{ℕ, ◌≤◌}
 use native.Mathlib.Omega.{arith}
 use lib.Dec.{lit≤}
-use lib.ListN.{length, take}
+use lib.ListN.{length}
 use borrow.Author.Tests.{ne_eqb}
 use Rattle.meaning.specs.Curve.{Bucket, flat, curve_of, list_of}
 use Rattle.meaning.specs.Server.{Server, pure_delay, no_server, port}
@@ -16,7 +16,7 @@ use Rattle.meaning.proofs.Lists.{flat_length, buckets_flat}
 use Rattle.meaning.proofs.Outcome.Outcomes.{three_parts, refuse_in_part, asked_so_in_part, whole_list}
 use Rattle.meaning.proofs.Outcome.Answers.{outcome_code}
 use Rattle.meaning.proofs.Outcome.Slips.{refusal_keeps_table}
-use Rattle.meaning.proofs.Profile.Files.{held_few, read_in_range, length_buckets_in, held_curve, held_server, at_delay, at_rate, held_kind, byte_size, byte_size_bounds, server_taken}
+use Rattle.meaning.proofs.Profile.Files.{held_few, read_in_range, length_buckets_in, held_curve, held_server, at_delay, at_rate, byte_size, byte_size_bounds, server_taken}
 use Rattle.meaning.proofs.Profile.Refusals.{profile_decides}
 use Rattle.meaning.proofs.Profile.Outcomes.{file_up_to, read_refused, read_answered}
 use Rattle.checks.proofs.Checks.{passed}

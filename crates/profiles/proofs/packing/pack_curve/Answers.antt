@@ -1,9 +1,16 @@
-use Rattle.profiles.proofs.Packs.{curve_packs}
-use Rattle.std.proofs.Common.{rules}
+use Rattle.std.proofs.Common.{rules, arith}
+use Rattle.checks.proofs.Checks.{curve_some, curve_few}
+use Rattle.profiles.proofs.Packs.{curve_packs, buckets_start}
 use Rattle.profiles.proofs.packing.pack_curve.Goals as goal
 
+pub pack_head-writer-requires-clause-some : goal.pack_head-writer-requires-clause-some
+pack_head-writer-requires-clause-some c = omega (arith, c.count-count.ensures, curve_some _ c.args.curve.clear)
+
+pub pack_head-writer-requires-clause-few : goal.pack_head-writer-requires-clause-few
+pack_head-writer-requires-clause-few c = omega (arith, c.count-count.ensures, curve_few _ c.args.curve.clear)
+
 pub loop-k-init : goal.loop-k-init
-loop-k-init c = search (curve_packs, rules)
+loop-k-init c = buckets_start c.args.curve.clear c.count-count.ensures c.pack_head-writer.ensures.packed c.pack_head-writer.ensures.long
 
 pub put-requires : goal.put-requires
 put-requires c = search (curve_packs, rules)
