@@ -11,21 +11,20 @@ use Prim.Native.Nat.{ℕ, suc, ◌+◌, ◌*◌, ◌^◌, ◌≤◌, ◌<◌}
 use native.Mathlib.Nat.{mul-le-mul_left, eq-or-lt_of_le}
 use native.Mathlib.Numerals.{towards_suc}
 use native.Mathlib.Omega.{arith}
-use borrow.Author.Tests.{not-true, not-false}
+use borrow.Author.Tests.{not-true, not-false, lt-ltb}
 use lib.ListN.{length, take, drop, set, length-append, length-set}
 use lib.Seq.{append_snoc, take-suc-set}
+use Rattle.std.proofs.Common.{Option, Some, None}
 use Rattle.meaning.specs.Curve.{Bucket, ◌∈◌, buckets, flat, bucket_at, Falling, Useful}
 use Rattle.meaning.specs.Computed.{Ends, every_time, narrowed, is_open, stays_open, is_useful, normal}
 use Rattle.meaning.proofs.Curve.Usefulness.{useful_sound, useful_complete}
 use Rattle.meaning.proofs.Curve.Normal.{Chosen, chosen_among}
 use Rattle.checks.specs.Cited.{bucket_of}
-use Rattle.settle.specs.Cited.{Wide, AllWide, ends_of, EndsFit, Searching, Leaves, bucket_from, Ahead, First, Comes, Chose}
+use Rattle.settle.specs.Cited.{Wide, AllWide, ends_of, Leaves, bucket_from, Ahead, First, Comes, Chose}
 use Rattle.checks.specs.declared.Bucket as held_bucket
 use Rattle.settle.specs.declared.candidates.Candidate.{Candidate}
 use Rattle.settle.specs.declared.ends.Ends as held_ends
-use Rattle.settle.specs.declared.ends.Left.{Left}
 use Rattle.checks.proofs.Buckets.{buckets_next, buckets_end, flat_append}
-use Rattle.settle.proofs.Narrowing.{narrowed_fits}
 use Rattle.settle.proofs.Steepest.{longer}
 
 -- ---- The front of the normal form.
@@ -149,8 +148,6 @@ pub record Searched (raw : List ℕ) (c : held_bucket.Bucket) (ends : held_ends.
   pub inside : j ≤ length raw
   pub candidate : Wide (bucket_of c)
   pub others : AllWide (buckets (drop j raw))
-  pub ends_fit : EndsFit (ends_of ends)
-  pub any_time : is_open (ends_of ends) ≡ true
   pub decides : stays_open (bucket_of c) (ends_of ends) (buckets (drop j raw)) ≡ is_useful (buckets raw) (bucket_of c)
 
 module _ {raw : List ℕ} {c : held_bucket.Bucket} {ends : held_ends.Ends} {j : ℕ} (w : Searched raw c ends j) where
@@ -167,49 +164,39 @@ module _ {raw : List ℕ} {c : held_bucket.Bucket} {ends : held_ends.Ends} {j : 
     here = subst AllWide next w.others
 
     -- the next bucket is tried
-    pub searched_next : Searching (bucket_of c) (bucket_of other) (ends_of ends)
-    searched_next =
-        record {
-          candidate = w.candidate;
-          next = here (bucket_of other) (Memᴰ.head refl);
-          ends = w.ends_fit;
-          any_time = w.any_time;
-        }
+    pub searched_next : Wide (bucket_of other)
+    searched_next = here (bucket_of other) (Memᴰ.head refl)
 
-    -- it narrows the ends
-    module _ {left : Left} (narrow : Leaves (narrowed (bucket_of c) (bucket_of other) (ends_of ends)) left) where
-      next_decides :
-          left.any && stays_open (bucket_of c) (ends_of left.ends) (buckets (drop (j + 2) raw))
-          ≡ is_useful (buckets raw) (bucket_of c)
-      unfolding stays_open
-      next_decides =
-          ap (λ (t : Bool). t && stays_open (bucket_of c) (ends_of left.ends) (buckets (drop (j + 2) raw))) narrow.any_is
-          ∙ ap
-          (λ (e : Ends). is_open (narrowed (bucket_of c) (bucket_of other) (ends_of ends)) && stays_open (bucket_of c) e (buckets (drop (j + 2) raw)))
-          narrow.ends_are
-          ∙ ap (stays_open (bucket_of c) (ends_of ends)) (sym next)
-          ∙ w.decides
+    now : Ends
+    now = narrowed (bucket_of c) (bucket_of other) (ends_of ends)
 
-      -- no time is left
-      pub searched_shut : not left.any ≡ true → is_useful (buckets raw) (bucket_of c) ≡ false
-      searched_shut shut =
-          sym next_decides
-          ∙ ap (λ (t : Bool). t && stays_open (bucket_of c) (ends_of left.ends) (buckets (drop (j + 2) raw)))
-          (not-true left.any shut)
+    next_decides : is_open now && stays_open (bucket_of c) now (buckets (drop (j + 2) raw)) ≡ is_useful (buckets raw) (bucket_of c)
+    unfolding stays_open now
+    next_decides = ap (stays_open (bucket_of c) (ends_of ends)) (sym next) ∙ w.decides
 
-      -- some time is left
-      pub searched_step : not left.any ≡ false → Searched raw c left.ends (j + 2)
-      searched_step opens =
+    module _
+        {x : Option held_ends.Ends} (leaves : Leaves (narrowed (bucket_of c) (bucket_of other) (ends_of ends)) x) where
+      -- it leaves no time
+      pub searched_shut : x ≡ None → is_useful (buckets raw) (bucket_of c) ≡ false
+      unfolding now
+      searched_shut e =
+          let l : Leaves now None = rw e at leaves in
+          sym next_decides ∙ ap (λ (t : Bool). t && stays_open (bucket_of c) now (buckets (drop (j + 2) raw))) l.told
+
+      -- it leaves some
+      pub searched_step : {left : held_ends.Ends} → x ≡ Some left → Searched raw c left (j + 2)
+      unfolding now is_open
+      searched_step {left} e =
+          let l : Leaves now (Some left) = rw e at leaves in
           record {
             short = w.short;
             inside = omega arith;
             candidate = w.candidate;
             others = λ k m. here k (Memᴰ.tail m);
-            ends_fit = rw narrow.ends_are (narrowed_fits _ _ _ searched_next);
-            any_time = ap is_open narrow.ends_are ∙ sym narrow.any_is ∙ not-false left.any opens;
             decides =
-                ap (λ (t : Bool). t && stays_open (bucket_of c) (ends_of left.ends) (buckets (drop (j + 2) raw)))
-                (sym (not-false left.any opens))
+                ap (λ (t : Bool). t && stays_open (bucket_of c) (ends_of left) (buckets (drop (j + 2) raw)))
+                (sym (lt-ltb _ _ left.some_time))
+                ∙ ap (λ (e : Ends). is_open e && stays_open (bucket_of c) e (buckets (drop (j + 2) raw))) l.told
                 ∙ next_decides;
           }
 
@@ -283,8 +270,6 @@ module _
           inside = omega arith;
           candidate = w.wide _ first.inside;
           others = w.wide;
-          ends_fit = rw every (omega arith);
-          any_time = ap is_open every;
           decides = rw every refl;
         }
 

@@ -1,6 +1,6 @@
 -- What the contracts of this crate's own functions cite, beside the definitions of the crate meaning.
 -- Assumes nothing.
-use Rattle.std.specs.Prelude.{◌≡◌, Bool, true, false, List, [], ◌∷◌, ◌++◌, ℕ, ◌+◌, ◌*◌, ◌%◌, ◌^◌, ◌≤◌, ◌<◌, length, get_or, take, drop}
+use Rattle.std.specs.Prelude.{◌≡◌, Bool, true, false, List, [], ◌∷◌, ◌++◌, ℕ, ◌+◌, ◌*◌, ◌%◌, ◌^◌, ◌≤◌, ◌<◌, length, get_or, take, drop, Option, MatchOption}
 use Rattle.meaning.specs.Curve.{Bucket, ◌∈◌, buckets, flat, NormalOf}
 use Rattle.meaning.specs.Computed.{Ends, is_open, normal}
 use Rattle.meaning.specs.Refusal.{LIST, RANGE, ◌when◌, ◌or◌, Within, AllWithin, Uneven, Question, over, part}
@@ -9,7 +9,7 @@ use Rattle.checks.specs.declared.Bucket as held_bucket
 use Rattle.settle.specs.declared.candidates.Candidate.{Candidate}
 use Rattle.settle.specs.declared.candidates.Found.{Found}
 use Rattle.settle.specs.declared.ends.Ends as held_ends
-use Rattle.settle.specs.declared.ends.Left.{Left}
+use Rattle.settle.specs.declared.ends.Time.{Time}
 
 -- Raw buckets of a question, before normal form is taken: a burst may be up to twice its range, as it is behind a server.
 abbrev pub Wide : Bucket → Type 0
@@ -30,28 +30,16 @@ delivering pairs = record { operands = LIST when (Uneven 2 pairs); Answer = λ f
 
 -- ---- The search over one candidate.
 
--- The ends that code holds.
+-- Ends by the two times that code holds, and the ends that it holds.
+abbrev pub between : Time → Time → Ends
+between low high = record { low = low.ticks; low_over = low.over; high = high.ticks; high_over = high.over }
+
 abbrev pub ends_of : held_ends.Ends → Ends
-ends_of e = record { low = e.low; low_over = e.low_over; high = e.high; high_over = e.high_over }
+ends_of e = between e.low e.high
 
--- Ends whose cross products fit 64 bits.
-pub record EndsFit (e : Ends) : Type 0 where
-  pub low_fits : e.low < 2 ^ 41
-  pub low_over_fits : e.low_over < 2 ^ 20
-  pub high_fits : e.high < 2 ^ 41
-  pub high_over_fits : e.high_over < 2 ^ 20
-
--- The search over a candidate c is at bucket j: both fit, as the ends do, between which some time is left.
-pub record Searching (c j : Bucket) (e : Ends) : Type 0 where
-  pub candidate : Wide c
-  pub next : Wide j
-  pub ends : EndsFit e
-  pub any_time : is_open e ≡ true
-
--- The ends, and whether some time is left between them.
-pub record Leaves (e : Ends) (x : Left) : Type 0 where
-  pub ends_are : ends_of x.ends ≡ e
-  pub any_is : x.any ≡ is_open e
+-- The ends, if some time is left between them.
+pub record Leaves (e : Ends) (x : Option held_ends.Ends) : Type 0 where
+  pub told : MatchOption x (is_open e ≡ false) (λ left. ends_of left ≡ e)
 
 -- ---- The candidates.
 

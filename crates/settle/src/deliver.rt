@@ -11,11 +11,8 @@ fn write(answer: &[u64], out: &mut [u64])
     requires { length answer.now ≤ length out.old }
     ensures { out.new ≡ over answer.now out.old }
 {
-    let mut i = 0;
-    while i < answer.len() {
-        out[i] = answer[i];
-        i += 1;
-    }
+    let n = answer.len();
+    out[..n].copy_from_slice(answer);
 }
 
 // Puts an answer into the part of the table that is the `room` numbers from `at`, if it has room for it.

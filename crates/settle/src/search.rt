@@ -5,7 +5,7 @@ ghost use Rattle.meaning.specs.Curve.{buckets};
 ghost use Rattle.settle.specs.Cited.{AllWide, Chose};
 
 use crate::candidates::{bucket_from, in_order, next_candidate};
-use crate::ends::{every_time, narrowed};
+use crate::ends::Ends;
 use checks::limits;
 
 // The useful buckets by falling rates, written to the start of a list, and how many there are, or 65 for more than 64. The
@@ -26,15 +26,14 @@ pub(crate) fn choose(raw: &[u64], out: &mut [u64]) -> usize
         let c = next.bucket;
         bound = c.rate;
         from = next.at;
-        let mut ends = every_time();
+        let mut ends = Ends::every_time();
         let mut j = 0;
         while j + 1 < raw.len() {
-            let left = narrowed(c, bucket_from(raw, j), ends);
-            // No time is left: one bucket, or a steeper and a flatter one together, cover the candidate.
-            if !left.any {
+            // Where no time is left, one bucket, or a steeper and a flatter one together, cover the candidate.
+            let Some(left) = ends.narrowed(c, bucket_from(raw, j)) else {
                 continue 'next;
-            }
-            ends = left.ends;
+            };
+            ends = left;
             j += 2;
         }
         if count == limits::BUCKETS {

@@ -1,6 +1,8 @@
-use Rattle.settle.proofs.Copying.{copying}
-use Rattle.std.proofs.Common.{rules}
+-- `write` copies an answer to the start of a list.
+-- Assumes nothing.
+use Rattle.meaning.specs.Refusal.{over}
 use Rattle.settle.proofs.deliver.write.Goals as goal
 
 pub returns : goal.returns
-returns c = search (copying, rules)
+unfolding over
+returns c = cc

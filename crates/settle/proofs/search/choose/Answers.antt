@@ -12,11 +12,11 @@ returns-then-not-next c = search (picking, readying, rules)
 pub loop-j-init : goal.loop-j-init
 loop-j-init c = search (picking, readying, rules)
 
-pub narrowed-left-requires : goal.narrowed-left-requires
-narrowed-left-requires c = search (picking, readying, rules)
+pub narrowed-requires : goal.narrowed-requires
+narrowed-requires c = search (picking, readying, rules)
 
-pub next-preserved-then-not-left : goal.next-preserved-then-not-left
-next-preserved-then-not-left c = search (picking, readying, rules)
+pub next-preserved-in_default : goal.next-preserved-in_default
+next-preserved-in_default c = search (picking, readying, rules)
 
 pub loop-j-preserved : goal.loop-j-preserved
 loop-j-preserved c = search (picking, readying, rules)

@@ -2,7 +2,7 @@
 -- Assumes nothing.
 use Rattle.settle.proofs.Narrowing.{narrowing}
 use Rattle.std.proofs.Common.{rules}
-use Rattle.settle.proofs.ends.narrowed.Goals as goal
+use Rattle.settle.proofs.ends.Ends.narrowed.Goals as goal
 
 pub returns-then-c-j : goal.returns-then-c-j
 returns-then-c-j c = search (narrowing, rules)

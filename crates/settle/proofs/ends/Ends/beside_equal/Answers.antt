@@ -2,7 +2,7 @@
 -- Assumes nothing.
 use Rattle.settle.proofs.Narrowing.{narrowing}
 use Rattle.std.proofs.Common.{rules}
-use Rattle.settle.proofs.ends.beside_equal.Goals as goal
+use Rattle.settle.proofs.ends.Ends.beside_equal.Goals as goal
 
 pub returns-then-j-c : goal.returns-then-j-c
 returns-then-j-c c = search (narrowing, rules)

@@ -2,7 +2,7 @@
 -- Assumes nothing.
 use Rattle.meaning.specs.Computed.{every_time}
 use Rattle.std.proofs.Common.{rules}
-use Rattle.settle.proofs.ends.every_time.Goals as goal
+use Rattle.settle.proofs.ends.Ends.every_time.Goals as goal
 
 pub returns : goal.returns
 unfolding every_time
