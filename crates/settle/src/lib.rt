@@ -48,14 +48,11 @@ pub fn settle(raw: &[u64], table: &mut [u64], at: usize, room: usize) -> Answer
     if code != 0 {
         return Answer { code, count: 0 };
     }
-    let mut chosen = [0u64; 128];
-    let count = choose(raw, &mut chosen);
-    if limits::BUCKETS < count {
+    let Some(chosen) = choose(raw.as_chunks::<2>().0) else {
         return Answer {
             code: limits::LARGE,
             count: 0,
         };
-    }
-    let end = 2 * count;
-    deliver(&chosen[..end], table, at, room)
+    };
+    deliver(chosen.as_slice().as_flattened(), table, at, room)
 }
