@@ -14,9 +14,8 @@ use borrow.Author.Tests.{lt-ltb}
 use lib.ListN.{length, get_or, drop, length-append, drop_of_length-le}
 use lib.Seq.{append_snoc}
 use Rattle.std.proofs.Common.{Option, Some, None, Result, Ok, Err}
-use Rattle.std.specs.Result.{is_ok, OnErr}
+use Rattle.std.specs.Result.{IsOk, IsErr}
 use Rattle.std.proofs.lemmas.List.{map-append, length-map}
-use Rattle.arrayvec.specs.ArrayVec.{ArrayVec}
 use Rattle.meaning.proofs.Order.{not_above}
 use Rattle.meaning.specs.Curve.{Bucket, ◌∈◌, bucket_at, Falling, Useful}
 use Rattle.meaning.specs.Computed.{Ends, every_time, narrowed, is_open, stays_open, is_useful, normal}
@@ -215,10 +214,10 @@ module _ {pairs : List (List ℕ)} {c : held_bucket.Bucket} {ends : held_ends.En
 
 -- ---- The buckets picked.
 
--- where something is refused, what holds of a refusal holds
-pub refused : {T E P : Type 0} (r : Result T E) → false ≡ is_ok r → OnErr r P → P
-refused (Ok x) e h = cc e
-refused (Err x) e h = h
+-- no result is both
+not_both : {T E : Type 0} (r : Result T E) → IsOk r → IsErr r → ⊥
+not_both (Ok x) o e = cc e
+not_both (Err x) o e = cc o
 
 -- The pairs chosen are the front of the normal form, with the rates from the bound up, and the candidates that are left are all the
 -- buckets below it.
@@ -232,8 +231,9 @@ pub record Picked (pairs chosen : List (List ℕ)) (left : Candidates) : Type 0 
   pub stands : chosen ≡ map numbers front
 
 pub picked_start :
-    {pairs : List (List ℕ)} {left : Candidates} → AllWide (buckets_in pairs) → Starts pairs left → Picked pairs [] left
-picked_start {pairs} wide s =
+    {pairs chosen : List (List ℕ)} {left : Candidates} → AllWide (buckets_in pairs) → chosen ≡ [] → Starts pairs left
+    → Picked pairs chosen left
+picked_start {pairs} wide none s =
     record {
       wide = wide;
       in_order = rw s.all s.in_order;
@@ -241,7 +241,7 @@ picked_start {pairs} wide s =
       front = [];
       rest = normal (buckets_in pairs);
       parted = rw s.bound_is (parted_start wide);
-      stands = refl;
+      stands = none;
     }
 
 module _ {pairs chosen : List (List ℕ)} {left : Candidates} (w : Picked pairs chosen left) where
@@ -250,16 +250,15 @@ module _ {pairs chosen : List (List ℕ)} {left : Candidates} (w : Picked pairs 
 
   module _ {found : Option held_bucket.Bucket} {after : Candidates} (comes : Comes left found after) where
     -- no bucket is left below the bound
-    pub picked_end :
-        found ≡ None → {v : ArrayVec (List ℕ)} → v.items ≡ chosen → Chose (buckets_in pairs) (Some v)
-    picked_end e same =
+    pub picked_end : found ≡ None → {E : Type 0} → Chose {Refused = E} (buckets_in pairs) chosen (Ok tt)
+    picked_end e {E} =
         let none : Best left.bound (buckets_in left.left.now) None = rw e at comes.best in
         record {
-          told =
-              same
-              ∙ w.stands
+          whole = λ o.
+              w.stands
               ∙ ap (map numbers)
               (parted_end w.parted (λ k m. not_above (λ b. absurd (omega (arith, none.told k (w.all.kept k m b))))));
+          over_many = λ o. cc o;
         }
 
     module _ {c : held_bucket.Bucket} (e : found ≡ Some c) where
@@ -310,10 +309,12 @@ module _ {pairs chosen : List (List ℕ)} {left : Candidates} (w : Picked pairs 
 
         -- one more than 64
         pub picked_over :
-            length chosen ≡ 64 → {x : Option (ArrayVec (List ℕ))} → x ≡ None → Chose (buckets_in pairs) x
-        picked_over full none =
-            rw none record {
-              told =
+            length chosen ≡ 64 → {E : Type 0} {r : Result (Unit {0}) E} → IsErr r → {after : List (List ℕ)}
+            → Chose (buckets_in pairs) after r
+        picked_over full {E} {r} err =
+            record {
+              whole = λ o. absurd (not_both r o err);
+              over_many = λ o.
                   omega (
                     arith,
                     ap length w.stands,

@@ -1,7 +1,7 @@
 -- From raw buckets to the outcome in a part of a table: what the tests say one after the other, and the normal form that is
 -- chosen, handed over.
 -- Assumes nothing.
-use mathlib.Core.Path.{◌≡◌, refl}
+use mathlib.Core.Path.{◌≡◌, refl, sym, ◌∙◌, ap}
 use mathlib.Core.Bool.{Bool, true, false, not}
 use mathlib.Core.Logic.{inl, inr, ⊎_elim}
 use mathlib.Core.List.{List}
@@ -20,8 +20,8 @@ use Rattle.meaning.proofs.Outcome.Outcomes.{Single, Same, one_part_outcome, from
 use Rattle.checks.specs.Cited.{Tells}
 use Rattle.std.specs.Simd.{first_chunks}
 use Rattle.std.specs.List.{flat_map}
-use Rattle.std.proofs.Common.{Option, Some, None}
-use Rattle.arrayvec.specs.ArrayVec.{ArrayVec}
+use Rattle.std.proofs.Common.{Result}
+use Rattle.std.specs.Result.{is_ok, is_err}
 use Rattle.settle.specs.Cited.{AllWide, settling, delivering, buckets_in, Chose}
 use Rattle.settle.proofs.Pairs.{pairs_are, numbers_are}
 use Rattle.checks.proofs.Checks.{passed}
@@ -110,29 +110,27 @@ module _ (raw : List ℕ) where
 
 module _
     (raw : List ℕ) (a : Accepted raw) {pairs : List (List ℕ)} (p : pairs ≡ first_chunks 2 (length raw / 2) raw)
-    {found : Option (ArrayVec (List ℕ))} (c : Chose (buckets_in pairs) found)
+    {chosen : List (List ℕ)} {E : Type 0} {all : Result (Unit {0}) E} (c : Chose (buckets_in pairs) chosen all)
   where
-    chose : Chose (buckets raw) found
+    chose : Chose (buckets raw) chosen all
     chose = rw (p, pairs_are raw) at c
 
     -- the normal form has too many buckets
-    pub settled_many : found ≡ None → {at room : ℕ} {table : List ℕ} → PartOutcome (settling raw) at room table table 9 0
-    settled_many e =
-        let many : Chose (buckets raw) None = rw e at chose in
-        untouched (too_large (settling raw) _ a.clear (right raw a) (inl many.told))
+    pub settled_many :
+        {refused : Bool} → refused ≡ is_err all → refused ≡ true → {at room : ℕ} {table : List ℕ}
+        → PartOutcome (settling raw) at room table table 9 0
+    settled_many t many = untouched (too_large (settling raw) _ a.clear (right raw a) (inl (chose.over_many (sym t ∙ many))))
 
     -- what comes of handing its buckets over comes of settling
     pub settled :
-        {chosen : ArrayVec (List ℕ)} → found ≡ Some chosen
-        → {items : List (List ℕ)} → items ≡ chosen.items → {list table after : List ℕ} {at room code count : ℕ}
-        → list ≡ flat_map (λ (pair : List ℕ). pair) items
-        → PartOutcome (delivering list) at room table after code count
+        {refused : Bool} → is_ok all ≡ not refused → refused ≡ false → {items : List (List ℕ)} → items ≡ chosen → {list table after : List ℕ} {at room code count : ℕ}
+        → list ≡ flat_map (λ (pair : List ℕ). pair) items → PartOutcome (delivering list) at room table after code count
         → PartOutcome (settling raw) at room table after code count
-    settled {chosen} e same laid o =
-        let form : Chose (buckets raw) (Some chosen) = rw e at chose in
+    settled t few same laid o =
         handed_over (settling raw) (normal (buckets raw)) a.clear (right raw a)
         (λ g n. single raw g (normal (buckets raw)) n (right raw a))
-        (normal_is (buckets raw) a.some).form.some (rw (laid, same, form.told, numbers_are (normal (buckets raw))) at o)
+        (normal_is (buckets raw) a.some).form.some
+        (rw (laid, same, chose.whole (t ∙ ap not few), numbers_are (normal (buckets raw))) at o)
 
 pub ruleset settles = (accept, wide_pairs, settled_refused, settled_many, settled)
 

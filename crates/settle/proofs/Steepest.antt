@@ -72,6 +72,10 @@ ahead_other never =
 
 -- ---- One bucket more.
 
+-- a rate that is not below the bound is not below it
+not_below : {n bound : ℕ} {P : Type 0} → bound ≤ n → n < bound → P
+not_below h l = absurd (omega arith)
+
 -- what is so of each bucket of a list, and of one more, is so of each of the longer list
 pub longer :
     (P : Bucket → Type 0) {f : List Bucket} {j : Bucket} → ((k : Bucket) → k ∈ f → P k) → P j
@@ -125,7 +129,7 @@ module _ {bound : ℕ} {next : held.Bucket} where
     -- it is the first that is below the bound
     pub takes_first : best ≡ None → Keeps bound best next (Some next)
     takes_first e =
-        record { added = λ f b. record { told = first_next l (λ k m h. absurd (omega (arith, none_of (rw e at b) k m))) } }
+        record { added = λ f b. record { told = first_next l (λ k m h. not_below (none_of (rw e at b) k m) h) } }
 
     module _ {first : held.Bucket} (s : best ≡ Some first) {told : Bool} (t : told ≡ is_ahead (bucket_of first) (bucket_of next)) where
       -- it is not ahead of the one found, as the test of the two tells

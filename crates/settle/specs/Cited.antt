@@ -1,12 +1,11 @@
 -- What the contracts of this crate's own functions cite, beside the definitions of the crate meaning.
 -- Assumes nothing.
-use Rattle.std.specs.Prelude.{◌≡◌, Bool, true, false, cond, eqb, leb, ltb, map, List, [], ◌∷◌, ◌++◌, ℕ, ◌^◌, ◌≤◌, ◌<◌, length, get_or, take, drop, Option, Some, MatchOption}
+use Rattle.std.specs.Prelude.{◌≡◌, Bool, true, false, cond, eqb, leb, ltb, map, List, [], ◌∷◌, ◌++◌, ℕ, ◌^◌, ◌≤◌, ◌<◌, length, get_or, take, drop, Option, Some, MatchOption, Result, IsOk, IsErr}
 use Rattle.meaning.specs.Curve.{Bucket, ◌∈◌, buckets, NormalOf}
 use Rattle.meaning.specs.Computed.{Ends, is_open, normal}
 use Rattle.meaning.specs.Refusal.{LIST, RANGE, ◌when◌, ◌or◌, Within, AllWithin, Uneven, Question, over, part}
 use Rattle.checks.specs.Cited.{bucket_of}
 use Rattle.checks.specs.declared.Bucket as held_bucket
-use Rattle.arrayvec.specs.ArrayVec.{ArrayVec}
 use Rattle.settle.specs.declared.candidates.Candidates.{Candidates}
 use Rattle.settle.specs.declared.ends.Ends as held_ends
 use Rattle.settle.specs.declared.ends.Time.{Time}
@@ -109,9 +108,10 @@ pub record ComesInOrder (before : Candidates) (found : Option held_bucket.Bucket
 abbrev pub numbers : Bucket → List ℕ
 numbers k = k.rate ∷ k.burst ∷ []
 
--- The normal form is chosen, or it has over 64 buckets.
-pub record Chose (raw : List Bucket) (chosen : Option (ArrayVec (List ℕ))) : Type 0 where
-  pub told : MatchOption chosen (64 < length (normal raw)) (λ v. v.items ≡ map numbers (normal raw))
+-- The pairs chosen are the normal form's, or it has over 64 buckets.
+pub record Chose {Refused : Type 0} (raw : List Bucket) (chosen : List (List ℕ)) (all : Result (Unit {0}) Refused) : Type 0 where
+  pub whole : IsOk all → chosen ≡ map numbers (normal raw)
+  pub over_many : IsErr all → 64 < length (normal raw)
 
 -- The answer stands in the part of the table, or the part is too short for it and the table stays.
 pub record Placed (answer : List ℕ) (at room : ℕ) (before after : List ℕ) (written : Bool) : Type 0 where

@@ -13,6 +13,7 @@ ghost use Rattle.settle.specs.Cited.{settling};
 
 use crate::deliver::deliver;
 use crate::search::choose;
+use arrayvec::ArrayVec;
 use checks::limits;
 
 // A code, 0 for an answer, and the number of buckets, 0 for a refusal.
@@ -48,11 +49,12 @@ pub fn settle(raw: &[u64], table: &mut [u64], at: usize, room: usize) -> Answer
     if code != 0 {
         return Answer { code, count: 0 };
     }
-    let Some(chosen) = choose(raw.as_chunks::<2>().0) else {
+    let mut chosen = ArrayVec::new();
+    if choose(raw.as_chunks::<2>().0, &mut chosen).is_err() {
         return Answer {
             code: limits::LARGE,
             count: 0,
         };
-    };
+    }
     deliver(chosen.as_slice().as_flattened(), table, at, room)
 }

@@ -7,11 +7,11 @@ use Rattle.settle.proofs.settle.Goals as goal
 pub returns-then-code-ne0 : goal.returns-then-code-ne0
 returns-then-code-ne0 c = search (settles, rules)
 
-pub choose-requires : goal.choose-requires
-choose-requires c = search (settles, rules)
+pub choose-requires-clause-wide : goal.choose-requires-clause-wide
+choose-requires-clause-wide c = search (settles, rules)
 
-pub returns-in_default : goal.returns-in_default
-returns-in_default c = search (settles, rules)
+pub returns-then-is_err : goal.returns-then-is_err
+returns-then-is_err c = search (settles, rules)
 
 pub returns : goal.returns
 returns c = search (settles, rules)

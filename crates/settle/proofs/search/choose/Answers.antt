@@ -1,4 +1,4 @@
-use Rattle.settle.proofs.Picking.{refused, picking}
+use Rattle.settle.proofs.Picking.{picking}
 use Rattle.std.proofs.Common.{rules}
 use Rattle.settle.proofs.search.choose.Goals as goal
 
@@ -20,9 +20,8 @@ loop-pair-preserved c = search (picking, rules)
 pub next-preserved : goal.next-preserved
 next-preserved c = search (picking, rules)
 
+pub returns-in_err-try_push : goal.returns-in_err-try_push
+returns-in_err-try_push c = search (picking, c.in_err-try_push.ensures.full, c.from_residual.ensures.0, rules)
+
 pub returns : goal.returns
 returns c = search (picking, rules)
-
-pub returns-in_err-ok : goal.returns-in_err-ok
-returns-in_err-ok c =
-    let full = refused c.try_push.result c.in_err-ok.ensures.variant c.try_push.ensures.full in search (picking, rules)
