@@ -4,28 +4,31 @@
 -- Assumes nothing.
 use mathlib.Core.Path.{◌≡◌, refl, sym, ◌∙◌, ap, subst}
 use mathlib.Core.Logic.{◌⊎◌, inl, inr}
-use mathlib.Core.Bool.{Bool, true, false, not, ◌&&◌}
+use mathlib.Core.Bool.{Bool, true, false, ◌&&◌}
 use mathlib.Core.List.Memᴰ
-use mathlib.Core.List.{List, [], ◌∷◌, ◌++◌, append-nil}
-use Prim.Native.Nat.{ℕ, suc, ◌+◌, ◌*◌, ◌^◌, ◌≤◌, ◌<◌}
+use mathlib.Core.List.{List, [], ◌∷◌, ◌++◌, map, append-nil}
+use Prim.Native.Nat.{ℕ, ◌+◌, ◌*◌, ◌^◌, ◌≤◌, ◌<◌}
 use native.Mathlib.Nat.{mul-le-mul_left, eq-or-lt_of_le}
-use native.Mathlib.Numerals.{towards_suc}
 use native.Mathlib.Omega.{arith}
-use borrow.Author.Tests.{not-true, not-false, lt-ltb}
-use lib.ListN.{length, take, drop, set, length-append, length-set}
-use lib.Seq.{append_snoc, take-suc-set}
-use Rattle.std.proofs.Common.{Option, Some, None}
-use Rattle.meaning.specs.Curve.{Bucket, ◌∈◌, buckets, flat, bucket_at, Falling, Useful}
+use borrow.Author.Tests.{lt-ltb}
+use lib.ListN.{length, get_or, drop, length-append, drop_of_length-le}
+use lib.Seq.{append_snoc}
+use Rattle.std.proofs.Common.{Option, Some, None, Result, Ok, Err}
+use Rattle.std.specs.Result.{IsOk, IsErr}
+use Rattle.std.proofs.lemmas.List.{map-append, length-map}
+use Rattle.meaning.proofs.Order.{not_above}
+use Rattle.meaning.specs.Curve.{Bucket, ◌∈◌, bucket_at, Falling, Useful}
 use Rattle.meaning.specs.Computed.{Ends, every_time, narrowed, is_open, stays_open, is_useful, normal}
 use Rattle.meaning.proofs.Curve.Usefulness.{useful_sound, useful_complete}
 use Rattle.meaning.proofs.Curve.Normal.{Chosen, chosen_among}
 use Rattle.checks.specs.Cited.{bucket_of}
-use Rattle.settle.specs.Cited.{Wide, AllWide, ends_of, Leaves, bucket_from, Ahead, First, Comes, Chose}
+use Rattle.settle.specs.Cited.{Wide, AllWide, ends_of, Leaves, bucket_in, buckets_in, numbers, Ahead, InOrder, First, Best, Leave, Starts, Comes, Chose}
 use Rattle.checks.specs.declared.Bucket as held_bucket
-use Rattle.settle.specs.declared.candidates.Candidate.{Candidate}
+use Rattle.settle.specs.declared.candidates.Candidates.{Candidates}
 use Rattle.settle.specs.declared.ends.Ends as held_ends
-use Rattle.checks.proofs.Buckets.{buckets_next, buckets_end, flat_append}
+use Rattle.settle.proofs.Pairs.{pairs_from}
 use Rattle.settle.proofs.Steepest.{longer}
+use Rattle.settle.proofs.Ordered.{leave_all}
 
 -- ---- The front of the normal form.
 
@@ -142,215 +145,214 @@ module _ {raw : List Bucket} {bound : ℕ} {front rest : List Bucket} (p : Parte
 
 -- ---- The search over one candidate.
 
--- The ends so far, and the buckets from index j on, decide whether the candidate is useful.
-pub record Searched (raw : List ℕ) (c : held_bucket.Bucket) (ends : held_ends.Ends) (j : ℕ) : Type 0 where
-  pub short : length raw < 2 ^ 64
-  pub inside : j ≤ length raw
+-- The ends so far, and the buckets from the one at j on, decide whether the candidate is useful.
+pub record Searched (pairs : List (List ℕ)) (c : held_bucket.Bucket) (ends : held_ends.Ends) (j : ℕ) : Type 0 where
   pub candidate : Wide (bucket_of c)
-  pub others : AllWide (buckets (drop j raw))
-  pub decides : stays_open (bucket_of c) (ends_of ends) (buckets (drop j raw)) ≡ is_useful (buckets raw) (bucket_of c)
+  pub others : AllWide (buckets_in (drop j pairs))
+  pub decides :
+      stays_open (bucket_of c) (ends_of ends) (buckets_in (drop j pairs)) ≡ is_useful (buckets_in pairs) (bucket_of c)
 
-module _ {raw : List ℕ} {c : held_bucket.Bucket} {ends : held_ends.Ends} {j : ℕ} (w : Searched raw c ends j) where
+module _ {pairs : List (List ℕ)} {c : held_bucket.Bucket} {ends : held_ends.Ends} {j : ℕ} (w : Searched pairs c ends j) where
+  pub searched_candidate : Wide (bucket_of c)
+  searched_candidate = w.candidate
+
   -- no bucket is left
-  pub searched_end : length raw ≤ j + 1 → is_useful (buckets raw) (bucket_of c) ≡ true
+  pub searched_end : length pairs ≤ j → is_useful (buckets_in pairs) (bucket_of c) ≡ true
   unfolding stays_open
-  searched_end h = sym w.decides ∙ ap (stays_open (bucket_of c) (ends_of ends)) (buckets_end raw j h)
+  searched_end h =
+      sym w.decides
+      ∙ ap (λ (l : List (List ℕ)). stays_open (bucket_of c) (ends_of ends) (buckets_in l)) (drop_of_length-le pairs h)
 
-  module _ (more : j + 1 < length raw) {other : held_bucket.Bucket} (is : bucket_of other ≡ bucket_from raw j) where
-    next : buckets (drop j raw) ≡ bucket_of other ∷ buckets (drop (j + 2) raw)
-    next = buckets_next raw j more ∙ cc
+  module _
+      (more : j < length pairs) {pair : List ℕ} (at : pair ≡ get_or pairs j pair) {other : held_bucket.Bucket}
+      (is : bucket_of other ≡ bucket_in pair)
+    where
+      next : buckets_in (drop j pairs) ≡ bucket_of other ∷ buckets_in (drop (j + 1) pairs)
+      next =
+          pairs_from pairs j pair more
+          ∙ ap (λ (k : Bucket). k ∷ buckets_in (drop (j + 1) pairs)) (ap bucket_in (sym at) ∙ sym is)
 
-    here : AllWide (bucket_of other ∷ buckets (drop (j + 2) raw))
-    here = subst AllWide next w.others
+      here : AllWide (bucket_of other ∷ buckets_in (drop (j + 1) pairs))
+      here = subst AllWide next w.others
 
-    -- the next bucket is tried
-    pub searched_next : Wide (bucket_of other)
-    searched_next = here (bucket_of other) (Memᴰ.head refl)
+      -- the next bucket is tried
+      pub searched_next : Wide (bucket_of other)
+      searched_next = here (bucket_of other) (Memᴰ.head refl)
 
-    now : Ends
-    now = narrowed (bucket_of c) (bucket_of other) (ends_of ends)
+      now : Ends
+      now = narrowed (bucket_of c) (bucket_of other) (ends_of ends)
 
-    next_decides : is_open now && stays_open (bucket_of c) now (buckets (drop (j + 2) raw)) ≡ is_useful (buckets raw) (bucket_of c)
-    unfolding stays_open now
-    next_decides = ap (stays_open (bucket_of c) (ends_of ends)) (sym next) ∙ w.decides
+      next_decides :
+          is_open now && stays_open (bucket_of c) now (buckets_in (drop (j + 1) pairs))
+          ≡ is_useful (buckets_in pairs) (bucket_of c)
+      unfolding stays_open now
+      next_decides = ap (stays_open (bucket_of c) (ends_of ends)) (sym next) ∙ w.decides
 
-    module _
-        {x : Option held_ends.Ends} (leaves : Leaves (narrowed (bucket_of c) (bucket_of other) (ends_of ends)) x) where
-      -- it leaves no time
-      pub searched_shut : x ≡ None → is_useful (buckets raw) (bucket_of c) ≡ false
-      unfolding now
-      searched_shut e =
-          let l : Leaves now None = rw e at leaves in
-          sym next_decides ∙ ap (λ (t : Bool). t && stays_open (bucket_of c) now (buckets (drop (j + 2) raw))) l.told
+      module _
+          {x : Option held_ends.Ends} (leaves : Leaves (narrowed (bucket_of c) (bucket_of other) (ends_of ends)) x) where
+        -- it leaves no time
+        pub searched_shut : x ≡ None → is_useful (buckets_in pairs) (bucket_of c) ≡ false
+        unfolding now
+        searched_shut e =
+            let l : Leaves now None = rw e at leaves in
+            sym next_decides ∙ ap (λ (t : Bool). t && stays_open (bucket_of c) now (buckets_in (drop (j + 1) pairs))) l.told
 
-      -- it leaves some
-      pub searched_step : {left : held_ends.Ends} → x ≡ Some left → Searched raw c left (j + 2)
-      unfolding now is_open
-      searched_step {left} e =
-          let l : Leaves now (Some left) = rw e at leaves in
-          record {
-            short = w.short;
-            inside = omega arith;
-            candidate = w.candidate;
-            others = λ k m. here k (Memᴰ.tail m);
-            decides =
-                ap (λ (t : Bool). t && stays_open (bucket_of c) (ends_of left) (buckets (drop (j + 2) raw)))
-                (sym (lt-ltb _ _ left.some_time))
-                ∙ ap (λ (e : Ends). is_open e && stays_open (bucket_of c) e (buckets (drop (j + 2) raw))) l.told
-                ∙ next_decides;
-          }
+        -- it leaves some
+        pub searched_step : {left : held_ends.Ends} → x ≡ Some left → Searched pairs c left (j + 1)
+        unfolding now is_open
+        searched_step {left} e =
+            let l : Leaves now (Some left) = rw e at leaves in
+            record {
+              candidate = w.candidate;
+              others = λ k m. here k (Memᴰ.tail m);
+              decides =
+                  ap (λ (t : Bool). t && stays_open (bucket_of c) (ends_of left) (buckets_in (drop (j + 1) pairs)))
+                  (sym (lt-ltb _ _ left.some_time))
+                  ∙ ap (λ (e : Ends). is_open e && stays_open (bucket_of c) e (buckets_in (drop (j + 1) pairs))) l.told
+                  ∙ next_decides;
+            }
 
--- ---- The buckets picked, in memory.
+-- ---- The buckets picked.
 
--- two numbers are written behind the first n
-take_two :
-    (l : List ℕ) (n a b : ℕ) → n + 1 < length l → take (n + 2) (set (set l n a) (n + 1) b) ≡ take n l ++ a ∷ b ∷ []
-take_two l n a b h = simp towards_suc two
-  where
-    two : take (suc (suc n)) (set (set l n a) (suc n) b) ≡ take n l ++ a ∷ b ∷ []
-    two =
-        take-suc-set (set l n a) (suc n) b (simp length-set (omega arith))
-        ∙ ap (λ (m : List ℕ). m ++ b ∷ []) (take-suc-set l n a (omega arith))
-        ∙ append_snoc (take n l) a (b ∷ [])
+-- no result is both
+not_both : {T E : Type 0} (r : Result T E) → IsOk r → IsErr r → ⊥
+not_both (Ok x) o e = cc e
+not_both (Err x) o e = cc o
 
--- The numbers at the start of a list are the front of the normal form, with the rates from the bound up.
-pub record Picked (raw out : List ℕ) (count bound : ℕ) : Type 0 where
-  pub short : length raw < 2 ^ 64
-  pub wide : AllWide (buckets raw)
-  pub long : length out ≡ 128
-  pub few : count ≤ 64
+-- The pairs chosen are the front of the normal form, with the rates from the bound up, and the candidates that are left are all the
+-- buckets below it.
+pub record Picked (pairs chosen : List (List ℕ)) (left : Candidates) : Type 0 where
+  pub wide : AllWide (buckets_in pairs)
+  pub in_order : left.ordered ≡ true → InOrder (buckets_in left.left.now)
+  pub all : Leave left.bound (buckets_in pairs) (buckets_in left.left.now)
   pub front : List Bucket
   pub rest : List Bucket
-  pub parted : Parted (buckets raw) bound front rest
-  pub counted : length front ≡ count
-  pub stands : take (2 * count) out ≡ flat front
+  pub parted : Parted (buckets_in pairs) left.bound front rest
+  pub stands : chosen ≡ map numbers front
 
 pub picked_start :
-    {raw out : List ℕ} → length raw < 2 ^ 64 → AllWide (buckets raw) → length out ≡ 128 → Picked raw out 0 (2 ^ 20)
-unfolding flat
-picked_start short wide long =
+    {pairs chosen : List (List ℕ)} {left : Candidates} → AllWide (buckets_in pairs) → chosen ≡ [] → Starts pairs left
+    → Picked pairs chosen left
+picked_start {pairs} wide none s =
     record {
-      short = short;
       wide = wide;
-      long = long;
-      few = omega arith;
+      in_order = rw s.all s.in_order;
+      all = rw s.all leave_all;
       front = [];
-      rest = _;
-      parted = parted_start wide;
-      counted = refl;
-      stands = refl;
+      rest = normal (buckets_in pairs);
+      parted = rw s.bound_is (parted_start wide);
+      stands = none;
     }
 
-module _
-    {raw out : List ℕ} {count bound : ℕ} (w : Picked raw out count bound) {next : Candidate}
-    (comes : Comes bound raw next) where
-  -- no bucket is left below the bound
-  pub picked_end : not next.some ≡ true → Chose (buckets raw) out count
-  picked_end none =
-      let all = parted_end w.parted (comes.best.none (not-true _ none)) in
-      record {
-        whole = λ h. w.stands ∙ ap flat all;
-        counted = λ h. sym w.counted ∙ ap length all;
-        over_many = λ h. absurd (omega (arith, w.few));
-      }
+module _ {pairs chosen : List (List ℕ)} {left : Candidates} (w : Picked pairs chosen left) where
+  pub picked_in_order : left.ordered ≡ true → InOrder (buckets_in left.left.now)
+  picked_in_order = w.in_order
 
-  module _ (some : not next.some ≡ false) where
-    first : First bound (buckets raw) (bucket_of next.bucket)
-    first = comes.best.first (not-false _ some)
-
-    pub picked_less : next.bucket.rate < bound
-    picked_less = first.below
-
-    -- the search over the candidate begins
-    pub searched_start : {ends : held_ends.Ends} → ends_of ends ≡ every_time → Searched raw next.bucket ends 0
-    unfolding is_useful every_time is_open
-    searched_start every =
+  module _ {found : Option held_bucket.Bucket} {after : Candidates} (comes : Comes left found after) where
+    -- no bucket is left below the bound
+    pub picked_end : found ≡ None → {E : Type 0} → Chose {Refused = E} (buckets_in pairs) chosen (Ok tt)
+    picked_end e {E} =
+        let none : Best left.bound (buckets_in left.left.now) None = rw e at comes.best in
         record {
-          short = w.short;
-          inside = omega arith;
-          candidate = w.wide _ first.inside;
-          others = w.wide;
-          decides = rw every refl;
+          whole = λ o.
+              w.stands
+              ∙ ap (map numbers)
+              (parted_end w.parted (λ k m. not_above (λ b. absurd (omega (arith, none.told k (w.all.kept k m b))))));
+          over_many = λ o. cc o;
         }
 
-    -- it is useless
-    pub picked_skip :
-        is_useful (buckets raw) (bucket_of next.bucket) ≡ false → Picked raw out count next.bucket.rate
-    picked_skip useless =
-        record {
-          short = w.short;
-          wide = w.wide;
-          long = w.long;
-          few = w.few;
-          front = w.front;
-          rest = w.rest;
-          parted = parted_skip w.parted first useless;
-          counted = w.counted;
-          stands = w.stands;
-        }
-
-    -- it is useful
-    module _ (useful : is_useful (buckets raw) (bucket_of next.bucket) ≡ true) where
-      taken : Taken (buckets raw) w.front (bucket_of next.bucket)
-      taken = parted_take w.parted first useful
-
-      counted_more : length (w.front ++ bucket_of next.bucket ∷ []) ≡ count + 1
-      counted_more = length-append w.front _ ∙ ap (λ (n : ℕ). n + 1) w.counted
-
-      -- one more than 64
-      pub picked_over : count ≡ 64 → Chose (buckets raw) out 65
-      picked_over full =
+    module _ {c : held_bucket.Bucket} (e : found ≡ Some c) where
+      first : First left.bound (buckets_in pairs) (bucket_of c)
+      first =
+          let b : Best left.bound (buckets_in left.left.now) (Some c) = rw e at comes.best in
           record {
-            whole = λ h. absurd (omega arith);
-            counted = λ h. absurd (omega arith);
-            over_many = λ h.
-                omega (
-                  arith,
-                  counted_more,
-                  length-append (w.front ++ bucket_of next.bucket ∷ []) taken.left,
-                  ap length taken.parted.whole,
-                );
+            inside = w.all.among _ b.told.inside;
+            below = b.told.below;
+            ahead = λ k m below. b.told.ahead k (w.all.kept k m below) below;
           }
 
-      -- it is written behind the others
-      pub picked_take :
-          (count ≡ 64 → ⊥)
-          → Picked raw (set (set out (2 * count) next.bucket.rate) (2 * count + 1) next.bucket.burst) (count + 1)
-          next.bucket.rate
-      unfolding flat
-      picked_take short =
+      pub picked_less : after.bound < left.bound
+      picked_less = omega (arith, first.below, comes.bound_is c e)
+
+      -- the search over the candidate begins
+      pub searched_start : {ends : held_ends.Ends} → ends_of ends ≡ every_time → Searched pairs c ends 0
+      unfolding is_useful
+      searched_start every =
+          record { candidate = w.wide _ first.inside; others = w.wide; decides = rw every refl }
+
+      all_left : Leave after.bound (buckets_in pairs) (buckets_in after.left.now)
+      all_left =
           record {
-            short = w.short;
+            among = λ k m. w.all.among k (comes.left.among k m);
+            kept = λ k m b.
+                let below : k.rate < left.bound = omega (arith, picked_less) in
+                comes.left.kept k (w.all.kept k m below) below;
+          }
+
+      -- it is useless
+      pub picked_skip : is_useful (buckets_in pairs) (bucket_of c) ≡ false → Picked pairs chosen after
+      picked_skip useless =
+          record {
             wide = w.wide;
-            long = simp length-set w.long;
-            few = omega (arith, w.few);
-            front = w.front ++ bucket_of next.bucket ∷ [];
-            rest = taken.left;
-            parted = taken.parted;
-            counted = counted_more;
-            stands = standing;
+            in_order = comes.in_order;
+            all = all_left;
+            front = w.front;
+            rest = w.rest;
+            parted = rw (comes.bound_is c e) (parted_skip w.parted first useless);
+            stands = w.stands;
           }
-        where
-          k : held_bucket.Bucket
-          k = next.bucket
 
-          standing :
-              take (2 * (count + 1)) (set (set out (2 * count) k.rate) (2 * count + 1) k.burst)
-              ≡ flat (w.front ++ bucket_of k ∷ [])
-          standing =
-              let twice : 2 * (count + 1) ≡ 2 * count + 2 = omega arith in
-              ap (λ (n : ℕ). take n (set (set out (2 * count) k.rate) (2 * count + 1) k.burst)) twice
-              ∙ take_two out (2 * count) k.rate k.burst (omega (arith, w.few, w.long))
-              ∙ ap (λ (l : List ℕ). l ++ k.rate ∷ k.burst ∷ []) w.stands
-              ∙ sym (flat_append w.front (bucket_of k ∷ []))
+      -- it is useful
+      module _ (useful : is_useful (buckets_in pairs) (bucket_of c) ≡ true) where
+        taken : Taken (buckets_in pairs) w.front (bucket_of c)
+        taken = parted_take w.parted first useful
+
+        -- one more than 64
+        pub picked_over :
+            length chosen ≡ 64 → {E : Type 0} {r : Result (Unit {0}) E} → IsErr r → {after : List (List ℕ)}
+            → Chose (buckets_in pairs) after r
+        picked_over full {E} {r} err =
+            record {
+              whole = λ o. absurd (not_both r o err);
+              over_many = λ o.
+                  omega (
+                    arith,
+                    ap length w.stands,
+                    length-map w.front numbers,
+                    length-append w.front (bucket_of c ∷ []),
+                    length-append (w.front ++ bucket_of c ∷ []) taken.left,
+                    ap length taken.parted.whole,
+                  );
+            }
+
+        -- it is written behind the others
+        pub picked_take :
+            {more : List (List ℕ)} → more ≡ chosen ++ (c.rate ∷ c.burst ∷ []) ∷ [] → Picked pairs more after
+        picked_take grown =
+            record {
+              wide = w.wide;
+              in_order = comes.in_order;
+              all = all_left;
+              front = w.front ++ bucket_of c ∷ [];
+              rest = taken.left;
+              parted =
+                  subst (λ (n : ℕ). Parted (buckets_in pairs) n (w.front ++ bucket_of c ∷ []) taken.left)
+                  (sym (comes.bound_is c e)) taken.parted;
+              stands =
+                  grown
+                  ∙ ap (λ (l : List (List ℕ)). l ++ (c.rate ∷ c.burst ∷ []) ∷ []) w.stands
+                  ∙ sym (map-append numbers w.front (bucket_of c ∷ []));
+            }
 
 pub ruleset picking = (
   searched_start,
+  searched_candidate,
   searched_end,
   searched_next,
   searched_shut,
   searched_step,
   picked_start,
+  picked_in_order,
   picked_end,
   picked_less,
   picked_skip,

@@ -1,15 +1,15 @@
 -- From raw buckets to the outcome in a part of a table: what the tests say one after the other, and the normal form that is
 -- chosen, handed over.
 -- Assumes nothing.
-use mathlib.Core.Path.{◌≡◌, refl}
+use mathlib.Core.Path.{◌≡◌, refl, sym, ◌∙◌, ap}
 use mathlib.Core.Bool.{Bool, true, false, not}
 use mathlib.Core.Logic.{inl, inr, ⊎_elim}
 use mathlib.Core.List.{List}
-use Prim.Native.Nat.{ℕ, ◌*◌, ◌%◌, ◌≤◌, ◌<◌}
+use Prim.Native.Nat.{ℕ, ◌/◌, ◌%◌, ◌≤◌}
 use native.Mathlib.Omega.{arith}
 use borrow.Author.Tests.{not-true, not-false}
 use lib.Dec.{lit≤}
-use lib.ListN.{length, take}
+use lib.ListN.{length}
 use Rattle.meaning.specs.Curve.{buckets}
 use Rattle.meaning.specs.Computed.{normal}
 use Rattle.meaning.specs.Refusal.{LIST, RANGE, LARGE, number, ◌when◌, Clear, Verdict, AllWithin, Uneven, PartOutcome}
@@ -18,7 +18,12 @@ use Rattle.meaning.proofs.Curve.Unique.{normal_of_unique}
 use Rattle.meaning.proofs.Curve.Normal.{normal_is}
 use Rattle.meaning.proofs.Outcome.Outcomes.{Single, Same, one_part_outcome, from_when, up_to_when, up_to_or, line_hit, line_miss, refused_first, refused_then, refuse_in_part, too_large}
 use Rattle.checks.specs.Cited.{Tells}
-use Rattle.settle.specs.Cited.{AllWide, settling, delivering, Chose}
+use Rattle.std.specs.Simd.{first_chunks}
+use Rattle.std.specs.List.{flat_map}
+use Rattle.std.proofs.Common.{Result}
+use Rattle.std.specs.Result.{is_ok, is_err}
+use Rattle.settle.specs.Cited.{AllWide, settling, delivering, buckets_in, Chose}
+use Rattle.settle.proofs.Pairs.{pairs_are, numbers_are}
 use Rattle.checks.proofs.Checks.{passed}
 use Rattle.checks.proofs.Ranges.{within_unless}
 use Rattle.settle.proofs.Delivering.{untouched, handed_over}
@@ -81,8 +86,9 @@ module _ (raw : List ℕ) where
     pub accept : code ≡ 0 → Accepted raw
     accept e = accepted_clear (passed v e)
 
-    pub accepted_wide : code ≡ 0 → AllWide (buckets raw)
-    accepted_wide e = (accept e).wide
+    pub wide_pairs :
+        code ≡ 0 → {pairs : List (List ℕ)} → pairs ≡ first_chunks 2 (length raw / 2) raw → AllWide (buckets_in pairs)
+    wide_pairs e p = rw (p, pairs_are raw) (accept e).wide
 
     -- an operand is refused
     pub settled_refused :
@@ -102,23 +108,32 @@ module _ (raw : List ℕ) where
 
 -- ---- The outcome.
 
-module _ (raw : List ℕ) {at room : ℕ} {table : List ℕ} (a : Accepted raw) {out : List ℕ} {count : ℕ} (c : Chose (buckets raw) out count) where
-  -- the normal form has too many buckets
-  pub settled_many : 64 < count → PartOutcome (settling raw) at room table table (number LARGE) 0
-  unfolding number
-  settled_many h = untouched (too_large (settling raw) _ a.clear (right raw a) (inl (c.over_many h)))
+module _
+    (raw : List ℕ) (a : Accepted raw) {pairs : List (List ℕ)} (p : pairs ≡ first_chunks 2 (length raw / 2) raw)
+    {chosen : List (List ℕ)} {E : Type 0} {all : Result (Unit {0}) E} (c : Chose (buckets_in pairs) chosen all)
+  where
+    chose : Chose (buckets raw) chosen all
+    chose = rw (p, pairs_are raw) at c
 
-  -- what comes of handing the buckets over comes of settling
-  pub settled :
-      count ≤ 64 → {after : List ℕ} {code count' : ℕ}
-      → PartOutcome (delivering (take (2 * count) out)) at room table after code count'
-      → PartOutcome (settling raw) at room table after code count'
-  settled few o =
-      handed_over (settling raw) (normal (buckets raw)) a.clear (right raw a)
-      (λ g n. single raw g (normal (buckets raw)) n (right raw a))
-      (normal_is (buckets raw) a.some).form.some (rw (c.whole few) at o)
+    -- the normal form has too many buckets
+    pub settled_many :
+        {refused : Bool} → refused ≡ is_err all → refused ≡ true → {at room : ℕ} {table : List ℕ}
+        → PartOutcome (settling raw) at room table table (number LARGE) 0
+    unfolding number
+    settled_many t many = untouched (too_large (settling raw) _ a.clear (right raw a) (inl (chose.over_many (sym t ∙ many))))
 
-pub ruleset settles = (accept, accepted_wide, settled_refused, settled_many, settled)
+    -- what comes of handing its buckets over comes of settling
+    pub settled :
+        {refused : Bool} → is_ok all ≡ not refused → refused ≡ false → {items : List (List ℕ)} → items ≡ chosen → {list table after : List ℕ} {at room code count : ℕ}
+        → list ≡ flat_map (λ (pair : List ℕ). pair) items → PartOutcome (delivering list) at room table after code count
+        → PartOutcome (settling raw) at room table after code count
+    settled t few same laid o =
+        handed_over (settling raw) (normal (buckets raw)) a.clear (right raw a)
+        (λ g n. single raw g (normal (buckets raw)) n (right raw a))
+        (normal_is (buckets raw) a.some).form.some
+        (rw (laid, same, chose.whole (t ∙ ap not few), numbers_are (normal (buckets raw))) at o)
+
+pub ruleset settles = (accept, wide_pairs, settled_refused, settled_many, settled)
 
 -- One outcome for every input: the code, the count and the whole table are fixed.
 pub one_settling :

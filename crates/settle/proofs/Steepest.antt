@@ -3,22 +3,24 @@
 -- Assumes nothing.
 use mathlib.Core.Path.{◌≡◌, refl, sym, ◌∙◌, ap, subst}
 use mathlib.Core.Logic.{◌⊎◌, inl, inr}
-use mathlib.Core.Bool.{Bool, true, false, true≢false}
+use mathlib.Core.Bool.{Bool, true, false}
 use mathlib.Core.List.Memᴰ
-use mathlib.Core.List.{List, [], ◌∷◌, ◌++◌, append-nil}
-use Prim.Native.Nat.{ℕ, ◌+◌, ◌%◌, ◌≤◌, ◌<◌}
+use mathlib.Core.List.{List, [], ◌∷◌, ◌++◌}
+use Prim.Native.Nat.{ℕ, ◌+◌, ◌≤◌, ◌<◌}
 use native.Mathlib.Nat.{le_of_lt}
 use native.Mathlib.Omega.{arith}
-use borrow.Author.Tests.{not-true, not-false}
-use lib.ListN.{length, take, drop, take-append-drop}
-use lib.Seq.{length-take-le}
-use Rattle.meaning.specs.Curve.{Bucket, ◌∈◌, buckets}
+use borrow.Author.Tests.{leb-true, leb-false, ltb-true, ltb-false, eqb-true, eqb-false}
+use lib.Dec.{eqb, leb, ltb}
+use lib.ListN.{length, get_or, take}
+use lib.Seq.{take_all}
+use Rattle.std.proofs.Common.{Option, Some, None, MatchOption}
+use Rattle.std.proofs.lemmas.Bool.{cond_both}
+use Rattle.std.proofs.lemmas.List.{map_more}
+use Rattle.meaning.specs.Curve.{Bucket, ◌∈◌}
 use Rattle.checks.specs.Cited.{Tells, bucket_of}
-use Rattle.settle.specs.Cited.{bucket_from, Ahead, Best, Keeps}
+use Rattle.settle.specs.Cited.{bucket_in, buckets_in, Ahead, is_ahead, First, Best, Keeps}
 use Rattle.checks.specs.declared.Bucket as held
-use Rattle.settle.specs.declared.candidates.Found.{Found}
 use Rattle.meaning.proofs.Order.{not_above}
-use Rattle.checks.proofs.Buckets.{buckets_end, buckets_append, buckets_passed}
 
 -- ---- The order.
 
@@ -38,6 +40,28 @@ pub ahead_further : {a b c : Bucket} → Ahead a b → Ahead b c → Ahead a c
 ahead_further ab bc =
     record { steeper = omega arith; lower = λ same. omega (arith, ab.lower (omega arith), bc.lower (omega arith)) }
 
+-- what the test of the two tells
+module _ {c k : Bucket} where
+  tells_lower : k.rate ≡ c.rate → Tells (Ahead c k) (leb c.burst k.burst)
+  tells_lower same =
+      record {
+        yes_means = λ t. record { steeper = omega arith; lower = λ e. leb-true c.burst k.burst t };
+        no_means = λ t a. omega (arith, leb-false c.burst k.burst t, a.lower same);
+      }
+
+  tells_steeper : (k.rate ≡ c.rate → ⊥) → Tells (Ahead c k) (ltb k.rate c.rate)
+  tells_steeper apart =
+      record {
+        yes_means = λ t. record { steeper = le_of_lt (ltb-true k.rate c.rate t); lower = λ e. absurd (apart e) };
+        no_means = λ t a. apart (omega (arith, ltb-false k.rate c.rate t, a.steeper));
+      }
+
+  pub tells_ahead : Tells (Ahead c k) (is_ahead c k)
+  unfolding is_ahead
+  tells_ahead =
+      cond_both (eqb k.rate c.rate) _ _ (Tells (Ahead c k)) (λ e. tells_lower (eqb-true k.rate c.rate e))
+      (λ e. tells_steeper (eqb-false k.rate c.rate e))
+
 -- of two buckets one is ahead
 ahead_other : {c k : Bucket} → (Ahead c k → ⊥) → Ahead k c
 ahead_other never =
@@ -47,6 +71,10 @@ ahead_other never =
     }
 
 -- ---- One bucket more.
+
+-- a rate that is not below the bound is not below it
+not_below : {n bound : ℕ} {P : Type 0} → bound ≤ n → n < bound → P
+not_below h l = absurd (omega arith)
 
 -- what is so of each bucket of a list, and of one more, is so of each of the longer list
 pub longer :
@@ -58,107 +86,95 @@ longer P {f} {j} all one k m = split (Memᴰ.append_cases f m)
     split (inl n) = all k n
     split (inr n) = subst P (sym (Memᴰ.eq_of_singleton n)) one
 
-module _ {bound : ℕ} {best : Found} {next : held.Bucket} where
-  keeps :
-      (best.some ≡ true → next.rate < bound → Ahead (bucket_of best.bucket) (bucket_of next))
-      → (best.some ≡ false → bound ≤ next.rate) → Keeps bound best next best
-  keeps ahead past =
+module _ {bound : ℕ} {f : List Bucket} where
+  none_of : Best bound f None → (k : Bucket) → k ∈ f → bound ≤ k.rate
+  none_of b = b.told
+
+  first_of : {c : held.Bucket} → Best bound f (Some c) → First bound f (bucket_of c)
+  first_of b = b.told
+
+  -- the first stays the first, unless the next one is below the bound and ahead of it
+  first_more : {c j : Bucket} → First bound f c → (j.rate < bound → Ahead c j) → First bound (f ++ j ∷ []) c
+  first_more {c} first ahead =
       record {
-        added = λ f b.
-            record {
-              first = λ s.
-                  record {
-                    inside = Memᴰ.append_left _ (b.first s).inside;
-                    below = (b.first s).below;
-                    ahead = longer (λ (k : Bucket). k.rate < bound → Ahead (bucket_of best.bucket) k) (b.first s).ahead
-                        (ahead s);
-                  };
-              none = λ s. longer (λ (k : Bucket). bound ≤ k.rate) (b.none s) (past s);
-            };
+        inside = Memᴰ.append_left _ first.inside;
+        below = first.below;
+        ahead = longer (λ (k : Bucket). k.rate < bound → Ahead c k) first.ahead ahead;
       }
 
+  -- the next one is the first
+  first_next :
+      {j : Bucket} → j.rate < bound → ((k : Bucket) → k ∈ f → k.rate < bound → Ahead j k) → First bound (f ++ j ∷ []) j
+  first_next {j} l ahead =
+      record {
+        inside = Memᴰ.append_right f (Memᴰ.head refl);
+        below = l;
+        ahead = longer (λ (k : Bucket). k.rate < bound → Ahead j k) ahead (λ h. ahead_same refl);
+      }
+
+module _ {bound : ℕ} {next : held.Bucket} where
   -- the next one is not below the bound
-  pub keeps_past : bound ≤ next.rate → Keeps bound best next best
-  keeps_past h = keeps (λ s l. absurd (omega arith)) (λ s. h)
+  pub keeps_past : {best : Option held.Bucket} → bound ≤ next.rate → Keeps bound best next best
+  keeps_past {best} h = record { added = λ f b. record { told = split best f b.told } }
+    where
+      split :
+          (x : Option held.Bucket) (f : List Bucket)
+          → MatchOption x ((k : Bucket) → k ∈ f → bound ≤ k.rate) (λ c. First bound f (bucket_of c))
+          → MatchOption x ((k : Bucket) → k ∈ (f ++ bucket_of next ∷ []) → bound ≤ k.rate)
+          (λ c. First bound (f ++ bucket_of next ∷ []) (bucket_of c))
+      split None f none = longer (λ (k : Bucket). bound ≤ k.rate) none h
+      split (Some c) f first = first_more first (λ l. absurd (omega arith))
 
-  -- it is not ahead of the one found, as the test of the two tells
-  pub keeps_told :
-      {answer : Bool} → best.some ≡ true → Tells (Ahead (bucket_of best.bucket) (bucket_of next)) answer → answer ≡ true
-      → Keeps bound best next best
-  keeps_told t tells e = keeps (λ s l. tells.yes_means e) (λ s. absurd (true≢false (sym t ∙ s)))
-
-  module _ (l : next.rate < bound) where
-    takes :
-        ((f : List Bucket) → Best bound f best → (k : Bucket) → k ∈ f → k.rate < bound → Ahead (bucket_of next) k)
-        → Keeps bound best next (record { some = true; bucket = next })
-    takes ahead =
-        record {
-          added = λ f b.
-              record {
-                first = λ s.
-                    record {
-                      inside = Memᴰ.append_right f (Memᴰ.head refl);
-                      below = l;
-                      ahead = longer (λ (k : Bucket). k.rate < bound → Ahead (bucket_of next) k) (ahead f b)
-                          (λ h. ahead_same refl);
-                    };
-                none = λ s. absurd (true≢false s);
-              };
-        }
-
+  module _ (l : next.rate < bound) {best : Option held.Bucket} where
     -- it is the first that is below the bound
-    pub takes_first : best.some ≡ false → Keeps bound best next (record { some = true; bucket = next })
-    takes_first t = takes (λ f b k m h. absurd (omega (arith, b.none t k m)))
+    pub takes_first : best ≡ None → Keeps bound best next (Some next)
+    takes_first e =
+        record { added = λ f b. record { told = first_next l (λ k m h. not_below (none_of (rw e at b) k m) h) } }
 
-    -- it is ahead of the one found
-    pub takes_told :
-        {answer : Bool} → best.some ≡ true → Tells (Ahead (bucket_of best.bucket) (bucket_of next)) answer
-        → answer ≡ false → Keeps bound best next (record { some = true; bucket = next })
-    takes_told t tells e =
-        takes (λ f b k m h. ahead_further (ahead_other (tells.no_means e)) ((b.first t).ahead k m h))
+    module _ {first : held.Bucket} (s : best ≡ Some first) {told : Bool} (t : told ≡ is_ahead (bucket_of first) (bucket_of next)) where
+      -- it is not ahead of the one found, as the test of the two tells
+      pub keeps_told : told ≡ true → Keeps bound best next (Some first)
+      keeps_told e =
+          record {
+            added = λ f b.
+                record { told = first_more (first_of (rw s at b)) (λ l. tells_ahead.yes_means (sym t ∙ e)) };
+          }
 
-pub ruleset bettering = (keeps_past, keeps_told, takes_first, takes_told, not-true, not-false)
+      -- it is ahead of the one found
+      pub takes_told : told ≡ false → Keeps bound best next (Some next)
+      takes_told e =
+          record {
+            added = λ f b.
+                record {
+                  told = first_next l
+                      (λ k m h.
+                      ahead_further (ahead_other (tells_ahead.no_means (sym t ∙ e)))
+                      ((first_of (rw s at b)).ahead k m h));
+                };
+          }
+
+pub ruleset bettering = (keeps_past, keeps_told, takes_first, takes_told)
 
 -- ---- One pass.
 
--- those before an even index, and those from it on, are all
-pub in_two : (l : List ℕ) (i : ℕ) → i ≤ length l → i % 2 ≡ 0 → buckets l ≡ buckets (take i l) ++ buckets (drop i l)
-in_two l i inside even =
-    ap buckets (sym (take-append-drop i l))
-    ∙ buckets_append (take i l) (drop i l) (omega (arith, length-take-le i l inside))
+-- The best of the first i buckets.
+pub record Sought (bound : ℕ) (pairs : List (List ℕ)) (best : Option held.Bucket) (i : ℕ) : Type 0 where
+  pub best_is : Best bound (buckets_in (take i pairs)) best
 
--- where none is left, those before are all
-pub all_passed : (l : List ℕ) (i : ℕ) → i ≤ length l → i % 2 ≡ 0 → length l ≤ i + 1 → buckets l ≡ buckets (take i l)
-all_passed l i inside even h =
-    in_two l i inside even ∙ ap (λ (f : List Bucket). buckets (take i l) ++ f) (buckets_end l i h) ∙ append-nil _
+pub sought_start : {bound : ℕ} {pairs : List (List ℕ)} → Sought bound pairs None 0
+sought_start = record { best_is = record { told = λ k m. absurd (Memᴰ.not-nil m) } }
 
--- The best of the buckets up to an even index.
-pub record Sought (bound : ℕ) (l : List ℕ) (best : Found) (i : ℕ) : Type 0 where
-  pub inside : i ≤ length l
-  pub even : i % 2 ≡ 0
-  pub best_is : Best bound (buckets (take i l)) best
-
-pub sought_start : {bound : ℕ} {l : List ℕ} {k : held.Bucket} → Sought bound l (record { some = false; bucket = k }) 0
-unfolding buckets
-sought_start =
-    record {
-      inside = omega arith;
-      even = refl;
-      best_is = record { first = λ t. absurd (true≢false (sym t)); none = λ t k m. absurd (Memᴰ.not-nil m) };
-    }
-
-module _ {bound : ℕ} {l : List ℕ} {best : Found} {i : ℕ} (w : Sought bound l best i) where
+module _ {bound : ℕ} {pairs : List (List ℕ)} {best : Option held.Bucket} {i : ℕ} (w : Sought bound pairs best i) where
   pub sought_step :
-      {next : held.Bucket} {after : Found} → i + 1 < length l → bucket_of next ≡ bucket_from l i
-      → Keeps bound best next after → Sought bound l after (i + 2)
-  sought_step more is kept =
-      record {
-        inside = omega arith;
-        even = omega arith;
-        best_is = rw (buckets_passed l i w.even more, ← is) (kept.added _ w.best_is);
-      }
+      {pair : List ℕ} {next : held.Bucket} {after : Option held.Bucket} → i < length pairs → pair ≡ get_or pairs i pair
+      → bucket_of next ≡ bucket_in pair → Keeps bound best next after → Sought bound pairs after (i + 1)
+  sought_step {pair} {next} {after} more is of kept =
+      let e : buckets_in (take (i + 1) pairs) ≡ buckets_in (take i pairs) ++ bucket_of next ∷ [] =
+      map_more bucket_in pairs i pair more ∙ ap (λ (k : Bucket). buckets_in (take i pairs) ++ k ∷ []) (ap bucket_in (sym is) ∙ sym of)
+      in
+      record { best_is = rw e (kept.added _ w.best_is) }
 
-  pub sought_end : length l ≤ i + 1 → Best bound (buckets l) best
-  sought_end h = rw (all_passed l i w.inside w.even h) w.best_is
+  pub sought_end : length pairs ≤ i → Best bound (buckets_in pairs) best
+  sought_end h = rw (take_all i pairs h) at w.best_is
 
 pub ruleset seeking = (sought_start, sought_step, sought_end)

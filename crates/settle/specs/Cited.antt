@@ -1,13 +1,12 @@
 -- What the contracts of this crate's own functions cite, beside the definitions of the crate meaning.
 -- Assumes nothing.
-use Rattle.std.specs.Prelude.{◌≡◌, Bool, true, false, List, [], ◌∷◌, ◌++◌, ℕ, ◌+◌, ◌*◌, ◌%◌, ◌^◌, ◌≤◌, ◌<◌, length, get_or, take, drop, Option, MatchOption}
-use Rattle.meaning.specs.Curve.{Bucket, ◌∈◌, buckets, flat, NormalOf}
+use Rattle.std.specs.Prelude.{◌≡◌, Bool, true, false, cond, eqb, leb, ltb, map, List, [], ◌∷◌, ◌++◌, ℕ, ◌^◌, ◌≤◌, ◌<◌, length, get_or, take, drop, Option, Some, MatchOption, Result, IsOk, IsErr}
+use Rattle.meaning.specs.Curve.{Bucket, ◌∈◌, buckets, NormalOf}
 use Rattle.meaning.specs.Computed.{Ends, is_open, normal}
 use Rattle.meaning.specs.Refusal.{LIST, RANGE, ◌when◌, ◌or◌, Within, AllWithin, Uneven, Question, over, part}
 use Rattle.checks.specs.Cited.{bucket_of}
 use Rattle.checks.specs.declared.Bucket as held_bucket
-use Rattle.settle.specs.declared.candidates.Candidate.{Candidate}
-use Rattle.settle.specs.declared.candidates.Found.{Found}
+use Rattle.settle.specs.declared.candidates.Candidates.{Candidates}
 use Rattle.settle.specs.declared.ends.Ends as held_ends
 use Rattle.settle.specs.declared.ends.Time.{Time}
 
@@ -43,14 +42,22 @@ pub record Leaves (e : Ends) (x : Option held_ends.Ends) : Type 0 where
 
 -- ---- The candidates.
 
--- The bucket at an index of a list of numbers: its rate stands there, and its burst behind.
-abbrev pub bucket_from : List ℕ → ℕ → Bucket
-bucket_from l i = record { rate = get_or l i 0; burst = get_or l (i + 1) 0 }
+-- The bucket of two numbers, its rate and then its burst.
+abbrev pub bucket_in : List ℕ → Bucket
+bucket_in pair = record { rate = get_or pair 0 0; burst = get_or pair 1 0 }
+
+-- The buckets of a list that has two numbers for each.
+abbrev pub buckets_in : List (List ℕ) → List Bucket
+buckets_in pairs = map bucket_in pairs
 
 -- By falling rates, and by rising bursts among those of one rate, c is not behind k.
 pub record Ahead (c k : Bucket) : Type 0 where
   pub steeper : k.rate ≤ c.rate
   pub lower : k.rate ≡ c.rate → c.burst ≤ k.burst
+
+-- The same as a test.
+unfoldable pub is_ahead : Bucket → Bucket → Bool
+is_ahead c k = cond (eqb k.rate c.rate) (leb c.burst k.burst) (ltb k.rate c.rate)
 
 -- Buckets that stand in that order: rates never rise, and among those of one rate bursts never fall.
 unfoldable pub InOrder : List Bucket → Type 0
@@ -64,37 +71,47 @@ pub record First (bound : ℕ) (f : List Bucket) (c : Bucket) : Type 0 where
   pub ahead : (k : Bucket) → k ∈ f → k.rate < bound → Ahead c k
 
 -- The first of them is found, or that there is none.
-pub record Best (bound : ℕ) (f : List Bucket) (x : Found) : Type 0 where
-  pub first : x.some ≡ true → First bound f (bucket_of x.bucket)
-  pub none : x.some ≡ false → (k : Bucket) → k ∈ f → bound ≤ k.rate
+pub record Best (bound : ℕ) (f : List Bucket) (found : Option held_bucket.Bucket) : Type 0 where
+  pub told : MatchOption found ((k : Bucket) → k ∈ f → bound ≤ k.rate) (λ c. First bound f (bucket_of c))
 
 -- Of every list of which the one is the best, the other is the best once the next bucket is added.
-pub record Keeps (bound : ℕ) (best : Found) (next : held_bucket.Bucket) (after : Found) : Type 0 where
+pub record Keeps (bound : ℕ) (best : Option held_bucket.Bucket) (next : held_bucket.Bucket) (after : Option held_bucket.Bucket) : Type 0 where
   pub added : (f : List Bucket) → Best bound f best → Best bound (f ++ bucket_of next ∷ []) after
 
--- No bucket before the index i has a rate below the bound.
-pub record Passed (bound : ℕ) (l : List ℕ) (i : ℕ) : Type 0 where
-  pub inside : i ≤ length l
-  pub even : i % 2 ≡ 0
-  pub steeper : (k : Bucket) → k ∈ buckets (take i l) → bound ≤ k.rate
+-- Some buckets are left of a list, all with a rate below the bound among them.
+pub record Leave (bound : ℕ) (f left : List Bucket) : Type 0 where
+  pub among : (k : Bucket) → k ∈ left → k ∈ f
+  pub kept : (k : Bucket) → k ∈ f → k.rate < bound → k ∈ left
 
--- So the next candidate may be looked for from there on, if the list is in order.
-pub record Ready (bound : ℕ) (l : List ℕ) (i : ℕ) (ordered : Bool) : Type 0 where
-  pub in_order : ordered ≡ true → InOrder (buckets l)
-  pub passed : Passed bound l i
+-- The candidates of the pairs are sought, from the first on.
+pub record Starts (pairs : List (List ℕ)) (x : Candidates) : Type 0 where
+  pub all : x.left.now ≡ pairs
+  pub bound_is : x.bound ≡ 2 ^ 20
+  pub in_order : x.ordered ≡ true → InOrder (buckets_in pairs)
 
--- The next candidate, and an index before which no bucket is below the bound.
-pub record Comes (bound : ℕ) (l : List ℕ) (x : Candidate) : Type 0 where
-  pub best : Best bound (buckets l) (record { some = x.some; bucket = x.bucket })
-  pub passed : Passed bound l x.at
+-- The next candidate comes, and its rate is the next bound.
+pub record Comes (before : Candidates) (found : Option held_bucket.Bucket) (after : Candidates) : Type 0 where
+  pub best : Best before.bound (buckets_in before.left.now) found
+  pub bound_is : (c : held_bucket.Bucket) → found ≡ Some c → after.bound ≡ c.rate
+  pub left : Leave before.bound (buckets_in before.left.now) (buckets_in after.left.now)
+  pub in_order : after.ordered ≡ true → InOrder (buckets_in after.left.now)
+
+-- The same where they stand in order; the bound stays.
+pub record ComesInOrder (before : Candidates) (found : Option held_bucket.Bucket) (after : Candidates) : Type 0 where
+  pub best : Best before.bound (buckets_in before.left.now) found
+  pub left : Leave before.bound (buckets_in before.left.now) (buckets_in after.left.now)
+  pub in_order : InOrder (buckets_in after.left.now)
 
 -- ---- What is written.
 
--- The normal form stands at the start of a list, with its count; or the count is over 64, and so is the normal form's.
-pub record Chose (raw : List Bucket) (out : List ℕ) (count : ℕ) : Type 0 where
-  pub whole : count ≤ 64 → take (2 * count) out ≡ flat (normal raw)
-  pub counted : count ≤ 64 → count ≡ length (normal raw)
-  pub over_many : 64 < count → 64 < length (normal raw)
+-- The two numbers of a bucket.
+abbrev pub numbers : Bucket → List ℕ
+numbers k = k.rate ∷ k.burst ∷ []
+
+-- The pairs chosen are the normal form's, or it has over 64 buckets.
+pub record Chose {Refused : Type 0} (raw : List Bucket) (chosen : List (List ℕ)) (all : Result (Unit {0}) Refused) : Type 0 where
+  pub whole : IsOk all → chosen ≡ map numbers (normal raw)
+  pub over_many : IsErr all → 64 < length (normal raw)
 
 -- The answer stands in the part of the table, or the part is too short for it and the table stays.
 pub record Placed (answer : List ℕ) (at room : ℕ) (before after : List ℕ) (written : Bool) : Type 0 where

@@ -1,41 +1,22 @@
 // The candidates for the normal form among raw buckets: by falling rates, the one of smallest burst of each rate. Where the
 // buckets stand in that order, one pass finds them all; where not, there is a pass for each.
-ghost use Rattle.std.specs.Prelude.{◌≡◌, ◌+◌, ◌<◌, length};
+ghost use Rattle.std.specs.Prelude.{◌≡◌, true};
 ghost use Rattle.checks.specs.Cited.{Tells, bucket_of};
-ghost use Rattle.meaning.specs.Curve.{buckets};
-ghost use Rattle.settle.specs.Cited.{bucket_from, Ahead, InOrder, Passed, Keeps, Best, Ready, Comes};
+ghost use Rattle.settle.specs.Cited.{bucket_in, buckets_in, is_ahead, InOrder, Keeps, Best, Starts, Comes, ComesInOrder};
 
-use checks::Bucket;
+use checks::{Bucket, limits};
 
-// A bucket that is looked for, if there is one.
-#[derive(Clone, Copy)]
-struct Found {
-    some: bool,
-    bucket: Bucket,
-}
-
-// The next candidate, if there is one, and the index from which on the one after it is to be looked for.
-#[derive(Clone, Copy)]
-pub(crate) struct Candidate {
-    pub(crate) some: bool,
-    pub(crate) bucket: Bucket,
-    pub(crate) at: usize,
-}
-
-// The bucket at an index.
-pub(crate) fn bucket_from(raw: &[u64], i: usize) -> Bucket
-    requires { i + 1 < length raw.now }
-    ensures { bucket_of result ≡ bucket_from raw.now i }
+// The bucket of two numbers, its rate and then its burst.
+pub(crate) fn bucket(pair: &[u64; 2]) -> Bucket
+    ensures { bucket_of result ≡ bucket_in pair.now }
 {
-    Bucket {
-        rate: raw[i],
-        burst: raw[i + 1],
-    }
+    let [rate, burst] = *pair;
+    Bucket { rate, burst }
 }
 
 // Whether c is not behind k, by falling rates, and by rising bursts among those of one rate.
 fn ahead(c: Bucket, k: Bucket) -> bool
-    ensures { Tells (Ahead (bucket_of c) (bucket_of k)) result }
+    ensures { result ≡ is_ahead (bucket_of c) (bucket_of k) }
 {
     if k.rate == c.rate {
         return c.burst <= k.burst;
@@ -44,93 +25,82 @@ fn ahead(c: Bucket, k: Bucket) -> bool
 }
 
 // Whether the buckets stand in that order.
-pub(crate) fn in_order(raw: &[u64]) -> bool
-    ensures { Tells (InOrder (buckets raw.now)) result }
+fn in_order(pairs: &[[u64; 2]]) -> bool
+    ensures { Tells (InOrder (buckets_in pairs.now)) result }
 {
-    let mut i = 0;
-    while i + 3 < raw.len() {
-        if !ahead(bucket_from(raw, i), bucket_from(raw, i + 2)) {
-            return false;
-        }
-        i += 2;
-    }
-    true
-}
-
-// The first bucket with a rate below the bound, of buckets in order, where those before the index `from` are not below it.
-fn next_below(raw: &[u64], from: usize, bound: u64) -> Candidate
-    requires in_order { InOrder (buckets raw.now) }
-    requires passed { Passed bound raw.now from }
-    ensures { Comes bound raw.now result }
-{
-    let mut at = from;
-    while at + 1 < raw.len() {
-        let bucket = bucket_from(raw, at);
-        if bucket.rate < bound {
-            return Candidate {
-                some: true,
-                bucket,
-                at,
-            };
-        }
-        at += 2;
-    }
-    Candidate {
-        some: false,
-        bucket: Bucket { rate: 0, burst: 0 },
-        at,
-    }
+    pairs.is_sorted_by(|c, k| ahead(bucket(c), bucket(k)))
 }
 
 // Of the bucket found so far and the next one the first by that order; only rates below the bound count.
-fn better(best: Found, next: Bucket, bound: u64) -> Found
+fn better(best: Option<Bucket>, next: Bucket, bound: u64) -> Option<Bucket>
     ensures { Keeps bound best next result }
 {
     if bound <= next.rate {
         return best;
     }
-    let taken = Found {
-        some: true,
-        bucket: next,
-    };
-    if !best.some {
-        return taken;
+    match best {
+        Some(first) if ahead(first, next) => best,
+        _ => Some(next),
     }
-    if ahead(best.bucket, next) {
-        return best;
-    }
-    taken
 }
 
 // The first bucket by that order of those with a rate below the bound, if there is one.
-fn steepest_below(raw: &[u64], bound: u64) -> Found
-    ensures { Best bound (buckets raw.now) result }
+fn steepest_below(pairs: &[[u64; 2]], bound: u64) -> Option<Bucket>
+    ensures { Best bound (buckets_in pairs.now) result }
 {
-    let mut best = Found {
-        some: false,
-        bucket: Bucket { rate: 0, burst: 0 },
-    };
-    let mut i = 0;
-    while i + 1 < raw.len() {
-        best = better(best, bucket_from(raw, i), bound);
-        i += 2;
+    let mut best = None;
+    for pair in pairs {
+        best = better(best, bucket(pair), bound);
     }
     best
 }
 
-// The next candidate, where none below the bound stands before the index `from`.
-pub(crate) fn next_candidate(raw: &[u64], from: usize, bound: u64, ordered: bool) -> Candidate
-    requires { Ready bound raw.now from ordered }
-    ensures { Comes bound raw.now result }
-{
-    if ordered {
-        return next_below(raw, from, bound);
+// The candidates that are still to come: of the buckets left, those with a rate below the bound.
+#[derive(Drop)]
+pub(crate) struct Candidates<'a> {
+    left: &'a [[u64; 2]],
+    bound: u64,
+    ordered: bool,
+}
+
+impl<'a> Candidates<'a> {
+    // All of them.
+    pub(crate) fn of(pairs: &'a [[u64; 2]]) -> Candidates<'a>
+        ensures { Starts pairs.now result }
+    {
+        Candidates {
+            left: pairs,
+            bound: limits::RATE_END,
+            ordered: in_order(pairs),
+        }
     }
-    let found = steepest_below(raw, bound);
-    let bucket = found.bucket;
-    Candidate {
-        some: found.some,
-        bucket,
-        at: from,
+
+    // The next one, if there is one.
+    pub(crate) fn next(&mut self) -> Option<Bucket>
+        requires { self.old.ordered ≡ true → InOrder (buckets_in self.old.left.now) }
+        ensures { Comes self.old result self.new }
+    {
+        let next = if self.ordered {
+            self.next_in_order()?
+        } else {
+            steepest_below(self.left, self.bound)?
+        };
+        self.bound = next.rate;
+        Some(next)
+    }
+
+    // The first bucket with a rate below the bound, which is the next one where they stand in order; those before it are passed.
+    fn next_in_order(&mut self) -> Option<Bucket>
+        requires { InOrder (buckets_in self.old.left.now) }
+        ensures { ComesInOrder self.old result self.new }
+    {
+        while let Some((first, rest)) = self.left.split_first() {
+            let next = bucket(first);
+            if next.rate < self.bound {
+                return Some(next);
+            }
+            self.left = rest;
+        }
+        None
     }
 }

@@ -17,6 +17,7 @@ ghost use Rattle.settle.specs.Parts.{Answers};
 use crate::deliver::deliver;
 pub use crate::part::Part;
 use crate::search::choose;
+use arrayvec::ArrayVec;
 use checks::{Refusal, limits};
 
 // Tests raw buckets.
@@ -41,11 +42,9 @@ pub fn settle(raw: &[u64], table: &mut [u64], part: Part) -> Result<usize, Refus
     ensures { Answers (settling raw.now) part table.old table.new result }
 {
     refusal(raw)?;
-    let mut chosen = [0u64; 128];
-    let count = choose(raw, &mut chosen);
-    if limits::BUCKETS < count {
+    let mut chosen = ArrayVec::new();
+    if choose(raw.as_chunks::<2>().0, &mut chosen).is_err() {
         return Err(Refusal::Large);
     }
-    let end = 2 * count;
-    deliver(&chosen[..end], table, part)
+    deliver(chosen.as_slice().as_flattened(), table, part)
 }

@@ -7,11 +7,11 @@ use Rattle.settle.proofs.candidates.better.Goals as goal
 pub returns-then-bound-next : goal.returns-then-bound-next
 returns-then-bound-next c = search (bettering, rules)
 
-pub returns-then-not-best : goal.returns-then-not-best
-returns-then-not-best c = search (bettering, rules)
+pub returns-in-Some : goal.returns-in-Some
+returns-in-Some c = search (bettering, rules)
 
-pub returns-then-ahead : goal.returns-then-ahead
-returns-then-ahead c = search (bettering, rules)
+pub returns-in_default : goal.returns-in_default
+returns-in_default c = search (bettering, rules)
 
-pub returns : goal.returns
-returns c = search (bettering, rules)
+pub returns-in_default-2 : goal.returns-in_default-2
+returns-in_default-2 c = search (bettering, rules)

@@ -1,12 +1,9 @@
-use Rattle.settle.proofs.Ordered.{ordering}
+-- `in_order` tells whether the buckets stand in order, by what each answer of its closure tells of two neighbours.
+-- Assumes nothing.
+use Rattle.std.proofs.lemmas.List.Sorted.{answers_always}
 use Rattle.std.proofs.Common.{rules}
+use Rattle.settle.proofs.Ordered.{pair_ahead, tells_in_order}
 use Rattle.settle.proofs.candidates.in_order.Goals as goal
 
-pub returns-then-not-ahead : goal.returns-then-not-ahead
-returns-then-not-ahead c = search (ordering, rules)
-
-pub loop-i-preserved : goal.loop-i-preserved
-loop-i-preserved c = search (ordering, rules)
-
 pub returns : goal.returns
-returns c = search (ordering, rules)
+returns c = tells_in_order c.args.pairs.now c.is_sorted_by.result (c.is_sorted_by.ensures.cases pair_ahead (answers_always _ _ _ (λ f a r k e. search rules)))

@@ -1,0 +1,9 @@
+use Rattle.settle.proofs.Ordered.{passing}
+use Rattle.std.proofs.Common.{rules}
+use Rattle.settle.proofs.candidates.Candidates.next_in_order.Goals as goal
+
+pub returns-then-next-self : goal.returns-then-next-self
+returns-then-next-self c = search (passing, c.in-Some.ensures.cases.0, rules)
+
+pub loop-first-preserved : goal.loop-first-preserved
+loop-first-preserved c = search (passing, c.in-Some.ensures.cases.0, rules)
