@@ -16,9 +16,9 @@ choose-requires-clause-wide c = wide_pairs _ c.in_ok-refusal.ensures refl c.as_c
 
 pub returns-then-is_err : goal.returns-then-is_err
 returns-then-is_err c =
-    settled_many _ (accept _ c.in_ok-refusal.ensures refl) c.as_chunks.ensures.front c.choose.ensures c.is_err.ensures c.if-is_err.true
+    settled_many _ (accept _ c.in_ok-refusal.ensures refl) c.as_chunks.ensures.front c.choose.ensures c.is_err.ensures.value c.if-is_err.true
 
 pub returns : goal.returns
 returns c =
-    settled _ (accept _ c.in_ok-refusal.ensures refl) c.as_chunks.ensures.front c.choose.ensures _ c.if-is_err.false
-    c.as_slice.ensures.value c.as_flattened.ensures c.deliver.ensures
+    settled _ (accept _ c.in_ok-refusal.ensures refl) c.as_chunks.ensures.front c.choose.ensures c.is_err.ensures.negation c.if-is_err.false
+    c.as_slice.ensures.value c.as_flattened.ensures.value c.deliver.ensures
