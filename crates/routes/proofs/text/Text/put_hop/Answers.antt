@@ -1,0 +1,11 @@
+-- `put_hop` puts the line of a hop.
+-- Assumes nothing.
+use Rattle.routes.proofs.Putting.{lines}
+use Rattle.std.proofs.Common.{rules}
+use Rattle.routes.proofs.text.Text.put_hop.Goals as goal
+
+pub put_line-requires : goal.put_line-requires
+put_line-requires c = search (lines, rules)
+
+pub returns : goal.returns
+returns c = search (lines, rules)

@@ -1,0 +1,14 @@
+-- `refused` is the line of a refusal.
+-- Assumes nothing.
+use Rattle.routes.proofs.Putting.{lines}
+use Rattle.std.proofs.Common.{rules}
+use Rattle.routes.proofs.text.Text.refused.Goals as goal
+
+pub put_numbers-requires : goal.put_numbers-requires
+put_numbers-requires c = search (lines, rules)
+
+pub put_line-requires : goal.put_line-requires
+put_line-requires c = search (lines, rules)
+
+pub returns : goal.returns
+returns c = search (lines, rules)
