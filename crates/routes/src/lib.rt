@@ -5,24 +5,26 @@ mod reading;
 mod text;
 mod walk;
 
+ghost use Rattle.std.specs.Prelude.{◌≡◌, []};
 ghost use Rattle.meaning.specs.Route.{Route, RouteOutcome};
 
 use profiles::Written;
 use text::Text;
 
-// The text of an input.
-fn report(input: &[u8]) -> Text
-    ensures { Route input.now result }
+// Puts the text of an input.
+fn report(input: &[u8], text: &mut Text)
+    requires { text.old ≡ [] }
+    ensures { Route input.now text.new }
 {
     let mut first = [0u64; 128];
     let read = reading::read_curve(input, &mut first);
     if read.code != 0 {
-        return Text::refused(read.code, 1);
+        return text.refuse(read.code, 1);
     }
     let numbers = read.numbers;
     let start = profiles::bytes_taken(input);
     let curve = first;
-    walk::walk(input, &first[..numbers], start, curve)
+    walk::walk(input, &first[..numbers], start, curve, text);
 }
 
 // The text of a route, from the curve and the servers that the input holds: a line for each hop and the line of the route, or the
@@ -30,6 +32,7 @@ fn report(input: &[u8]) -> Text
 pub fn route(input: &[u8], text: &mut [u8]) -> Written
     ensures { RouteOutcome input.now text.old text.new result.code result.bytes }
 {
-    let held = report(input);
+    let mut held = Text::new();
+    report(input, &mut held);
     profiles::hand_over(held.as_bytes(), text)
 }

@@ -31,17 +31,6 @@ impl Text {
         }
     }
 
-    // The line of a refusal alone: the number, and which profile is refused.
-    pub(crate) fn refused(code: u64, profile: u64) -> Text
-        ensures { result ≡ refused_text code profile }
-    {
-        let mut text = Text::new();
-        text.put("refused");
-        text.put_numbers(&[code]);
-        text.put_line(" at", &[profile]);
-        text
-    }
-
     // The bytes that are put.
     pub(crate) fn as_bytes(&self) -> &[u8]
         ensures { result.now ≡ self.now }
@@ -101,5 +90,14 @@ impl Text {
         ensures { self.new ≡ self.old ++ route_text (figures backlog delay) }
     {
         self.put_line("route", &[backlog, delay]);
+    }
+    // Puts the line of a refusal in place of what is put: the number, and which profile is refused.
+    pub(crate) fn refuse(&mut self, code: u64, profile: u64)
+        ensures { self.new ≡ refused_text code profile }
+    {
+        self.held.clear();
+        self.put("refused");
+        self.put_numbers(&[code]);
+        self.put_line(" at", &[profile]);
     }
 }

@@ -1,5 +1,5 @@
 // Through the input, hop by hop: from the curve over each server to the line of the route, or to the one line of a refusal.
-ghost use Rattle.std.specs.Prelude.{◌≡◌, ◌≤◌, length, drop};
+ghost use Rattle.std.specs.Prelude.{◌≡◌, ◌≤◌, [], length, drop};
 ghost use Rattle.meaning.specs.Route.{Route};
 ghost use Rattle.servers.specs.Cited.{server_of};
 ghost use Rattle.routes.specs.Cited.{Due, JoinTo, HopAt, Stepping, Stepped, BehindProfile, Starts};
@@ -111,12 +111,18 @@ fn behind_profile(input: &[u8], at: usize) -> usize
     at + reading::first_end(&input[at..])
 }
 
-// Goes on from the curve, whose list is `first`, and which takes `start` bytes. Answers the text.
-pub(crate) fn walk(input: &[u8], first: &[u64], start: usize, mut curve: [u64; 128]) -> Text
-    requires { Starts input.now first.now start curve }
-    ensures { Route input.now result }
+// Goes on from the curve, whose list is `first`, and which takes `start` bytes.
+pub(crate) fn walk(
+    input: &[u8],
+    first: &[u64],
+    start: usize,
+    mut curve: [u64; 128],
+    text: &mut Text,
+)
+    requires starts { Starts input.now first.now start curve }
+    requires empty { text.old ≡ [] }
+    ensures { Route input.now text.new }
 {
-    let mut text = Text::new();
     let mut numbers = first.len();
     let mut next = [0u64; 128];
     let mut joined = servers::rated(0, 0);
@@ -124,11 +130,11 @@ pub(crate) fn walk(input: &[u8], first: &[u64], start: usize, mut curve: [u64; 1
     let mut at = start;
     while is_due(passed, at, input.len()) {
         if passed == SERVERS {
-            return Text::refused(limits::COUNT, SERVERS + 2);
+            return text.refuse(limits::COUNT, SERVERS + 2);
         }
         let step = step_at(input, at, &curve[..numbers], &mut next, passed, joined);
         if step.code != 0 {
-            return Text::refused(step.code, passed + 2);
+            return text.refuse(step.code, passed + 2);
         }
         text.put_hop(passed + 1, step.backlog, step.delay);
         passed += 1;
@@ -140,5 +146,4 @@ pub(crate) fn walk(input: &[u8], first: &[u64], start: usize, mut curve: [u64; 1
     let backlog = ports::backlog(first, joined);
     let delay = ports::delay(first, joined);
     text.put_route(backlog.figure, delay.figure);
-    text
 }

@@ -7,5 +7,5 @@ use Rattle.routes.proofs.report.Goals as goal
 pub returns-then-read-ne0 : goal.returns-then-read-ne0
 returns-then-read-ne0 c = search (reporting, rules)
 
-pub walk-requires : goal.walk-requires
-walk-requires c = search (reporting, rules)
+pub walk-requires-clause-starts : goal.walk-requires-clause-starts
+walk-requires-clause-starts c = search (reporting, rules)

@@ -1,8 +1,8 @@
--- `refused` is the line of a refusal.
+-- `refuse` puts the line of a refusal.
 -- Assumes nothing.
 use Rattle.routes.proofs.Putting.{lines}
 use Rattle.std.proofs.Common.{rules}
-use Rattle.routes.proofs.text.Text.refused.Goals as goal
+use Rattle.routes.proofs.text.Text.refuse.Goals as goal
 
 pub put_numbers-requires : goal.put_numbers-requires
 put_numbers-requires c = search (lines, rules)
