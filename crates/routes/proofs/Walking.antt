@@ -101,7 +101,7 @@ module _
             (code delay_code backlog delay : ℕ)
             (b : BacklogOutcome first joined code backlog) (l : DelayOutcome first joined delay_code delay)
           where
-            -- the line of the route is the rest of the text,
+            -- the line of the route is what is left,
             ended_route : Route input (text ++ route_text (figures backlog delay))
             ended_route =
                 (going_answered
@@ -109,6 +109,7 @@ module _
                 (joined_some passed passed_some) w.going)
                 (d.is_not ended).1 (figures backlog delay) b l).2
 
+            -- with it the text ends,
             pub route_line : {all : List ℕ} → all ≡ text ++ route_text (figures backlog delay) → Route input all
             route_line is = rw is ended_route
 

@@ -16,7 +16,7 @@ pub record Room (text more : List ℕ) : Type 0 where
   pub fits : length text + length more ≤ 1145
 
 -- A word, numbers with a space before each, and the end of the line.
-unfoldable pub line_text : List ℕ → List ℕ → List ℕ
+abbrev pub line_text : List ℕ → List ℕ → List ℕ
 line_text word list = word ++ numbers list ++ 10 ∷ []
 
 -- Backlog and delay.

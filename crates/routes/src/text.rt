@@ -1,5 +1,5 @@
 // The lines of a route's text, put one behind the other.
-ghost use Rattle.std.specs.Prelude.{◌≡◌, ◌∷◌, [], ◌++◌, ◌≤◌, length};
+ghost use Rattle.std.specs.Prelude.{◌≡◌, ◌∷◌, [], ◌++◌};
 ghost use Rattle.meaning.specs.Route.{digits, numbers, hop_text, route_text, refused_text};
 ghost use Rattle.routes.specs.Cited.{Room, line_text, figures};
 
