@@ -91,6 +91,7 @@ impl Text {
     {
         self.put_line("route", &[backlog, delay]);
     }
+
     // Puts the line of a refusal in place of what is put: the number, and which profile is refused.
     pub(crate) fn refuse(&mut self, code: u64, profile: u64)
         ensures { self.new ≡ refused_text code profile }
