@@ -54,7 +54,9 @@ unfolding numbers bytes
 numbers_one n = ap (λ (l : List ℕ). 32 ∷ l) (append-nil (digits 20 n))
 
 -- one number more
-numbers_more : (list : List ℕ) (i : ℕ) → i < length list → numbers (take (suc i) list) ≡ numbers (take i list) ++ (32 ∷ digits 20 (get_or list i 0))
+numbers_more :
+    (list : List ℕ) (i : ℕ) → i < length list
+    → numbers (take (suc i) list) ≡ numbers (take i list) ++ (32 ∷ digits 20 (get_or list i 0))
 numbers_more list i h =
     ap numbers (take-suc list i 0 h) ∙ numbers_append (take i list) (get_or list i 0 ∷ [])
     ∙ ap (λ (l : List ℕ). numbers (take i list) ++ l) (numbers_one (get_or list i 0))
@@ -144,7 +146,9 @@ module _ {word : List ℕ} (first : word ≡ 114 ∷ 101 ∷ 102 ∷ 117 ∷ 115
         }
 
     -- and then the line is put
-    pub refused_put : {all : List ℕ} → all ≡ numbered ++ line_text (32 ∷ 97 ∷ 116 ∷ []) (profile ∷ []) → all ≡ refused_text code profile
+    pub refused_put :
+        {all : List ℕ}
+        → all ≡ numbered ++ line_text (32 ∷ 97 ∷ 116 ∷ []) (profile ∷ []) → all ≡ refused_text code profile
     unfolding refused_text bytes
     refused_put put = rw (put, second, first) (simp append_assoc refl)
 

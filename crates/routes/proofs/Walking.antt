@@ -35,8 +35,8 @@ line_room text line route = record { fits = omega (arith, route_length route, le
 
 -- ---- What is known on the way.
 
--- So many servers are passed, whose lines are the text; the first numbers of `curve` are the list of the curve from the hop before, and
--- the next profile stands at `at`. There are 128 numbers for the curve.
+-- So many servers are passed, whose lines are the text; the first numbers of `curve` are the list of the curve from the hop before,
+-- and the next profile stands at `at`. There are 128 numbers for the curve.
 pub record Walking
     (input first text : List ℕ) (passed : ℕ) (joined : Server) (curve : List ℕ) (numbers : ℕ) (next : List ℕ) (at : ℕ)
     : Type 0
