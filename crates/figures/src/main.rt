@@ -3,26 +3,20 @@
 // stdout beside src/ has what the scope says.
 #![tactic(auto)]
 
-ghost use Rattle.std.specs.Prelude.{◌≡◌, length};
+ghost use Rattle.std.specs.Prelude.{◌≤◌};
 
 use operations::curves::{lower_in, normalise, normalise_in, shape, shape_in, sum_in};
 use operations::hops::behind_in;
 use profiles::read_in;
 use servers::Server;
 use settle::Answer;
-use std::io;
+use std::{array, io};
 
 // A line: the words, the code, the count, and that many buckets of the list.
 fn show(rt: &impl Print, words: &str, answer: Answer, list: &[u64]) -> io::Result<()> {
-    print!(rt; "{words}")?;
-    show_number(rt, answer.code)?;
-    show_number(rt, answer.count)?;
+    print!(rt; "{words} {} {}", answer.code, answer.count)?;
     show_buckets(rt, answer.count, list)?;
     println!(rt)
-}
-
-fn show_number(rt: &impl Print, n: u64) -> io::Result<()> {
-    print!(rt; " {n}")
 }
 
 // Short answers are shown in full; of a long one the count says enough.
@@ -30,15 +24,8 @@ fn show_buckets(rt: &impl Print, count: u64, list: &[u64]) -> io::Result<()> {
     if 5 < count {
         return Ok(());
     }
-    let mut left = 2 * count;
-    let mut i = 0;
-    while i < list.len() {
-        if left == 0 {
-            return Ok(());
-        }
-        show_number(rt, list[i])?;
-        left -= 1;
-        i += 1;
+    for number in list.iter().take(2 * count as usize) {
+        print!(rt; " {number}")?;
     }
     Ok(())
 }
@@ -51,9 +38,7 @@ fn show_table(
     count: u64,
     table: &[u64],
 ) -> io::Result<()> {
-    print!(rt; "{words}")?;
-    show_number(rt, code)?;
-    show_number(rt, count)?;
+    print!(rt; "{words} {code} {count}")?;
     show_buckets(rt, 5, table)?;
     println!(rt)
 }
@@ -133,17 +118,10 @@ fn show_ports_in_parts(rt: &impl Print) -> io::Result<()> {
 }
 
 // Buckets (200 - i, i * i): rates fall and crossings rise, so each is useful.
-fn spread() -> [u64; 130]
-    ensures { length result ≡ 130 }
+fn spread<const N: usize>() -> [[u64; 2]; N]
+    requires { N ≤ 200 }
 {
-    let mut list = [0u64; 130];
-    let mut i = 0;
-    while i < 65 {
-        list[2 * i] = 200 - i as u64;
-        list[2 * i + 1] = (i * i) as u64;
-        i += 1;
-    }
-    list
+    array::from_fn(|i| [200 - i as u64, (i * i) as u64])
 }
 
 // Normalises a raw list, and shows what is answered.
@@ -159,12 +137,10 @@ fn show_joined(rt: &impl Print, words: &str, next: Server) -> io::Result<()> {
     let answer = longest.join(next);
     let server = answer.server;
     let joined = server.numbers();
-    print!(rt; "{words}")?;
-    show_number(rt, answer.code)?;
-    show_number(rt, joined.kind)?;
-    show_number(rt, joined.rate)?;
-    show_number(rt, joined.latency)?;
-    println!(rt)
+    println!(rt;
+        "{words} {} {} {} {}",
+        answer.code, joined.kind, joined.rate, joined.latency,
+    )
 }
 
 // {(3,20)} shaped by a link of rate 10 with frames of up to so many bits.
@@ -178,9 +154,16 @@ fn main(rt: HostRuntime) -> io::Result<()> {
     show_shaped(&rt, "shape {(3,20)} by 10:", 0)?;
     show_shaped(&rt, "shape {(3,20)} by 10 with frames of 2:", 2)?;
 
-    let raw = spread();
-    show_normalised(&rt, "normalise 64 raw buckets:", &raw[..128])?;
-    show_normalised(&rt, "normalise 65 raw buckets:", &raw)?;
+    show_normalised(
+        &rt,
+        "normalise 64 raw buckets:",
+        spread::<64>().as_flattened(),
+    )?;
+    show_normalised(
+        &rt,
+        "normalise 65 raw buckets:",
+        spread::<65>().as_flattened(),
+    )?;
     show_normalised(&rt, "normalise burst 2^40-1:", &[0, 1_099_511_627_775])?;
     show_normalised(&rt, "normalise burst 2^40:", &[0, 1_099_511_627_776])?;
 

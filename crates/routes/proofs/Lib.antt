@@ -1,6 +1,5 @@
 -- The laws that the proofs of this crate's functions cite.
 pub mod Putting
-pub mod Spelling
 pub mod Due
 pub mod Hops
 pub mod Walking

@@ -1,215 +1,155 @@
--- Bytes put at a place of a text one after the other, and pieces put one behind the other.
+-- A number in decimal, and lines put piece by piece.
 -- Assumes nothing.
 use mathlib.Core.Path.{◌≡◌, refl, sym, ◌∙◌, ap}
 use mathlib.Core.List.{List, ◌∷◌, [], ◌++◌, append_assoc, append-nil}
-use Prim.Native.Nat.{ℕ, suc, ◌+◌, ◌-◌, ◌≤◌, ◌<◌}
-use native.Mathlib.Nat.{add-zero}
+use Prim.Native.Nat.{ℕ, suc, ◌+◌, ◌^◌, ◌≤◌, ◌<◌}
+use native.Mathlib.Nat.{lt_of_lt_of_le}
 use native.Mathlib.Numerals.{add-one}
 use native.Mathlib.Omega.{arith}
-use lib.ListN.{length, get_or, take, drop, set, length-set, length-append, length-drop}
-use lib.Seq.{take_all, take-suc, take-suc-set}
-use Rattle.meaning.specs.Route.{bytes, digits, hop_text, route_text, refused_text}
-use Rattle.meaning.proofs.Route.Text.{hop_text_is, route_text_is, refused_text_is}
-use Rattle.routes.specs.Cited.{Room, Put, Spelt, line_text, figures}
-
--- The first i bytes are put.
-pub record Putting (before : List ℕ) (at : ℕ) (bytes now : List ℕ) (i : ℕ) : Type 0 where
-  pub inside : i ≤ length bytes
-  pub room : at + length bytes ≤ length before
-  pub long : length now ≡ length before
-  pub is : take (at + i) now ≡ take at before ++ take i bytes
-
--- none is put yet
-pub putting_start : {before : List ℕ} {at : ℕ} {bytes : List ℕ} → Room bytes before at → Putting before at bytes before 0
-putting_start h = record { inside = omega arith; room = h.fits; long = refl; is = rw (add-zero, append-nil) }
-
-module _ {before : List ℕ} {at : ℕ} {bytes now : List ℕ} {i : ℕ} (w : Putting before at bytes now i) where
-  -- one byte more is put,
-  pub putting_step : i < length bytes → Putting before at bytes (set now (at + i) (get_or bytes i 0)) (i + 1)
-  putting_step h =
-      record { inside = omega arith; room = w.room; long = length-set now (at + i) _ ∙ w.long; is = rw add-one one_more }
-    where
-      next : at + suc i ≡ suc (at + i)
-      next = omega arith
-
-      one_more : take (at + suc i) (set now (at + i) (get_or bytes i 0)) ≡ take at before ++ take (suc i) bytes
-      one_more =
-          ap (λ (n : ℕ). take n (set now (at + i) (get_or bytes i 0))) next
-          ∙ take-suc-set now (at + i) (get_or bytes i 0) (omega (arith, w.room, w.long))
-          ∙ ap (λ (l : List ℕ). l ++ get_or bytes i 0 ∷ []) w.is
-          ∙ append_assoc (take at before) (take i bytes) (get_or bytes i 0 ∷ [])
-          ∙ ap (λ (l : List ℕ). take at before ++ l) (sym (take-suc bytes i 0 h))
-
-  -- there is room for the next byte
-  pub putting_inside : i < length bytes → at + i < length now
-  putting_inside h = omega (arith, w.room, w.long)
-
-  -- and once all are, they stand there
-  pub putting_end : length bytes ≤ i → Put before at bytes now (at + i)
-  putting_end h =
-      record {
-        place = omega (arith, w.inside);
-        long = w.long;
-        is = w.is ∙ ap (λ (l : List ℕ). take at before ++ l) (take_all i bytes h);
-      }
-
-pub ruleset putting = (putting_start, putting_step, putting_inside, putting_end)
-
--- ---- Pieces.
-
-module _ {before : List ℕ} {at : ℕ} where
-  -- room for two pieces is room for the first,
-  room_first : {a : List ℕ} (b : List ℕ) → Room (a ++ b) before at → Room a before at
-  room_first {a} b room = record { fits = omega (arith, room.fits, length-append a b) }
-
-  module _ {a between : List ℕ} {next : ℕ} (v : Put before at a between next) where
-    -- and once it is put, for the second behind it,
-    room_then : {b : List ℕ} → Room (a ++ b) before at → Room b between next
-    room_then {b} room = record { fits = omega (arith, room.fits, length-append a b, v.place, v.long) }
-
-    -- and both are put once that is
-    put_then : {b after : List ℕ} {end : ℕ} → Put between next b after end → Put before at (a ++ b) after end
-    put_then {b} w =
-        record {
-          place = omega (arith, v.place, w.place, length-append a b);
-          long = w.long ∙ v.long;
-          is = w.is ∙ ap (λ (l : List ℕ). l ++ b) v.is ∙ append_assoc (take at before) a b;
-        }
+use lib.Dec.{lit≤}
+use lib.ListN.{length, take, drop, get_or, length-append}
+use lib.Seq.{take_all, take-suc}
+use Rattle.std.specs.Prelude.{decimal}
+use Rattle.std.proofs.Common.{take-append-drop}
+use Rattle.std.proofs.lemmas.Fmt.{decimal_from_appends, length-decimal-le}
+use Rattle.meaning.specs.Route.{bytes, digits, numbers, refused_text}
+use Rattle.meaning.proofs.Route.Decimal.{digits_one, digits_more, digits_length}
+use Rattle.routes.specs.Cited.{Room, line_text}
 
 -- ---- A number.
 
-module _ {n from : ℕ} {list : List ℕ} (w : Spelt n from list) where
-  -- what is lent of the decimal is all of it
-  lent : take (21 - from) (drop from list) ≡ 32 ∷ digits 20 n
-  lent = take_all (21 - from) (drop from list) (omega (arith, length-drop from list, w.long)) ∙ w.is
+-- what is printed for a number is its decimal
+printed : (n : ℕ) → n < 2 ^ 64 → decimal n ≡ digits 20 n
+printed n h =
+    sym (decimal_from_appends digits (record { one = digits_one; more = digits_more }) 20 n h
+    (length-decimal-le 20 n (lit≤ tt) (lt_of_lt_of_le h (lit≤ tt)) h))
 
-  module _ {t : List ℕ} {at : ℕ} where
-    -- there is room for what is lent of it,
-    pub number_room : Room (32 ∷ digits 20 n) t at → Room (take (21 - from) (drop from list)) t at
-    number_room room = rw lent room
+module _
+    {n : ℕ} (text : List ℕ) {spaced out : List ℕ} (h : n < 2 ^ 64) (space : spaced ≡ text ++ (32 ∷ [])) (is : out ≡ decimal n)
+  where
+    -- behind a space there is room for it,
+    pub number_room : Room text (32 ∷ digits 20 n) → Room spaced out
+    number_room room =
+        record { fits = omega (arith, room.fits, ap length space, length-append text (32 ∷ []), ap length (is ∙ printed n h)) }
 
-    -- and once that is put, the number is
-    pub number_put : {after : List ℕ} {end : ℕ} → Put t at (take (21 - from) (drop from list)) after end → Put t at (32 ∷ digits 20 n) after end
-    number_put v = rw lent at v
+    -- and there it is put
+    pub number_put : {all : List ℕ} → all ≡ spaced ++ out → all ≡ text ++ (32 ∷ digits 20 n)
+    number_put put = rw (put, space, is, printed n h) (append_assoc text (32 ∷ []) (digits 20 n))
 
-pub ruleset putting_number = (number_room, number_put)
+pub ruleset putting = (number_room, number_put)
 
--- ---- A word and a number.
+-- ---- Numbers.
 
-module _ (word : List ℕ) (n : ℕ) {t : List ℕ} {at : ℕ} (room : Room (word ++ (32 ∷ digits 20 n)) t at) where
-  -- there is room for the word,
-  pub named_word : Room word t at
-  named_word = room_first (32 ∷ digits 20 n) room
+-- numbers behind others
+numbers_append : (a b : List ℕ) → numbers (a ++ b) ≡ numbers a ++ numbers b
+unfolding numbers bytes
+numbers_append [] b = refl
+numbers_append (n ∷ a) b =
+    ap (λ (l : List ℕ). 32 ∷ (digits 20 n ++ l)) (numbers_append a b)
+    ∙ ap (λ (l : List ℕ). 32 ∷ l) (sym (append_assoc (digits 20 n) (numbers a) (numbers b)))
 
-  module _ {t1 : List ℕ} {a1 : ℕ} (p1 : Put t at word t1 a1) where
-    -- behind it for the number,
-    pub named_number : Room (32 ∷ digits 20 n) t1 a1
-    named_number = room_then p1 room
+-- one number
+numbers_one : (n : ℕ) → numbers (n ∷ []) ≡ 32 ∷ digits 20 n
+unfolding numbers bytes
+numbers_one n = ap (λ (l : List ℕ). 32 ∷ l) (append-nil (digits 20 n))
 
-    -- and then both are put
-    pub named_put : {t2 : List ℕ} {a2 : ℕ} → Put t1 a1 (32 ∷ digits 20 n) t2 a2 → Put t at (word ++ (32 ∷ digits 20 n)) t2 a2
-    named_put p2 = put_then p1 p2
+-- one number more
+numbers_more :
+    (list : List ℕ) (i : ℕ) → i < length list
+    → numbers (take (suc i) list) ≡ numbers (take i list) ++ (32 ∷ digits 20 (get_or list i 0))
+numbers_more list i h =
+    ap numbers (take-suc list i 0 h) ∙ numbers_append (take i list) (get_or list i 0 ∷ [])
+    ∙ ap (λ (l : List ℕ). numbers (take i list) ++ l) (numbers_one (get_or list i 0))
 
-pub ruleset putting_named = (named_word, named_number, named_put)
+-- the first of them take no more than all
+numbers_most : (list : List ℕ) (i : ℕ) → length (numbers (take i list)) ≤ length (numbers list)
+numbers_most list i =
+    omega (
+      arith,
+      length-append (numbers (take i list)) (numbers (drop i list)),
+      ap length (sym (numbers_append (take i list) (drop i list)) ∙ ap numbers (take-append-drop i list)),
+    )
 
--- ---- A line.
+-- The first i of them are put.
+pub record Counting (before list : List ℕ) (i : ℕ) (now : List ℕ) : Type 0 where
+  pub inside : i ≤ length list
+  pub room : Room before (numbers list)
+  pub is : now ≡ before ++ numbers (take i list)
 
-module _ (word : List ℕ) (x : ℕ) (between : List ℕ) (y : ℕ) {t : List ℕ} {at : ℕ} (room : Room (line_text word x between y) t at) where
-  -- there is room for the first number and its word,
-  pub line_first : Room (word ++ (32 ∷ digits 20 x)) t at
-  unfolding line_text
-  line_first = room_first _ room
+-- none is put yet
+pub counting_start : {before list : List ℕ} → Room before (numbers list) → Counting before list 0 before
+unfolding numbers
+counting_start {before} room = record { inside = omega arith; room = room; is = sym (append-nil before) }
 
-  module _ {t1 : List ℕ} {a1 : ℕ} (p1 : Put t at (word ++ (32 ∷ digits 20 x)) t1 a1) where
-    -- for what comes behind them,
-    rest : Room ((between ++ (32 ∷ digits 20 y)) ++ (10 ∷ [])) t1 a1
-    unfolding line_text
-    rest = room_then p1 room
+module _ {before list : List ℕ} {i : ℕ} {now : List ℕ} (w : Counting before list i now) where
+  module _ (h : i < length list) where
+    -- there is room for the next number,
+    pub counting_room : Room now (32 ∷ digits 20 (get_or list i 0))
+    counting_room =
+        record {
+          fits =
+              omega (
+                arith,
+                ap length w.is,
+                length-append before (numbers (take i list)),
+                w.room.fits,
+                numbers_most list (suc i),
+                ap length (numbers_more list i h),
+                length-append (numbers (take i list)) (32 ∷ digits 20 (get_or list i 0)),
+              );
+        }
 
-    -- first the second number and its word,
-    pub line_second : Room (between ++ (32 ∷ digits 20 y)) t1 a1
-    line_second = room_first _ rest
+    -- and then one more is put,
+    pub counting_step : {next : List ℕ} → next ≡ now ++ (32 ∷ digits 20 (get_or list i 0)) → Counting before list (i + 1) next
+    counting_step put =
+        record {
+          inside = omega arith;
+          room = w.room;
+          is =
+              rw (add-one, put, w.is, numbers_more list i h)
+              (append_assoc before (numbers (take i list)) (32 ∷ digits 20 (get_or list i 0)));
+        }
 
-    module _ {t2 : List ℕ} {a2 : ℕ} (p2 : Put t1 a1 (between ++ (32 ∷ digits 20 y)) t2 a2) where
-      -- then the line's end,
-      pub line_end : Room (10 ∷ []) t2 a2
-      line_end = room_then p2 rest
+  -- until all are
+  pub counting_end : length list ≤ i → now ≡ before ++ numbers list
+  counting_end h = w.is ∙ ap (λ (l : List ℕ). before ++ numbers l) (take_all i list h)
 
-      -- and then the line is put
-      pub line_put : {t3 : List ℕ} {a3 : ℕ} → Put t2 a2 (10 ∷ []) t3 a3 → Put t at (line_text word x between y) t3 a3
-      unfolding line_text
-      line_put p3 = put_then p1 (put_then p2 p3)
+pub ruleset counting = (counting_start, counting_room, counting_step, counting_end)
 
-pub ruleset putting_line = (line_first, line_second, line_end, line_put)
+-- ---- The line of a refusal.
 
--- ---- The lines of a route.
+-- a number and the space before it have 21 bytes at most
+numbers_few : (n : ℕ) → n < 2 ^ 64 → length (numbers (n ∷ [])) ≤ 21
+numbers_few n h = rw (numbers_one n) (omega (arith, digits_length 20 n 20 (lit≤ tt) (lt_of_lt_of_le h (lit≤ tt))))
 
--- five pieces, grouped from the right
-five : (a b c d e : List ℕ) → a ++ b ++ c ++ d ++ e ≡ a ++ (b ++ (c ++ (d ++ e)))
-five a b c d e = simp append_assoc
+module _ {word : List ℕ} (first : word ≡ 114 ∷ 101 ∷ 102 ∷ 117 ∷ 115 ∷ 101 ∷ 100 ∷ []) (code : ℕ) where
+  -- behind its word there is room for the number,
+  pub refused_number : code < 2 ^ 64 → Room word (numbers (code ∷ []))
+  refused_number h = record { fits = omega (arith, ap length first, numbers_few code h) }
 
--- and seven
-seven : (a b c d e f g : List ℕ) → a ++ b ++ c ++ d ++ e ++ f ++ g ≡ a ++ (b ++ (c ++ (d ++ (e ++ (f ++ g)))))
-seven a b c d e f g = simp append_assoc
+  module _ {numbered : List ℕ} (second : numbered ≡ word ++ numbers (code ∷ [])) (profile : ℕ) where
+    -- behind that for the profile,
+    pub refused_profile :
+        code < 2 ^ 64 → profile < 2 ^ 64 → Room numbered (line_text (32 ∷ 97 ∷ 116 ∷ []) (profile ∷ []))
+    refused_profile h k =
+        record {
+          fits =
+              omega (
+                arith,
+                ap length first,
+                ap length second,
+                numbers_few code h,
+                numbers_few profile k,
+                length-append word (numbers (code ∷ [])),
+                length-append (numbers (profile ∷ [])) (10 ∷ []),
+              );
+        }
 
--- the line of a refusal,
-refused_is : (c k : ℕ) → refused_text c k ≡ line_text (bytes "refused") c (bytes " at") k
-unfolding line_text bytes
-refused_is c k = refused_text_is c k ∙ five (bytes "refused ") (digits 20 c) (bytes " at ") (digits 20 k) (bytes "\n")
+    -- and then the line is put
+    pub refused_put :
+        {all : List ℕ}
+        → all ≡ numbered ++ line_text (32 ∷ 97 ∷ 116 ∷ []) (profile ∷ []) → all ≡ refused_text code profile
+    unfolding refused_text bytes
+    refused_put put = rw (put, second, first) (simp append_assoc refl)
 
--- for which there is room as for such a line,
-pub refused_room :
-    (c k : ℕ) {t : List ℕ} {at : ℕ} → Room (refused_text c k) t at
-    → Room (line_text (114 ∷ 101 ∷ 102 ∷ 117 ∷ 115 ∷ 101 ∷ 100 ∷ []) c (32 ∷ 97 ∷ 116 ∷ []) k) t at
-unfolding bytes
-refused_room c k room = rw (refused_is c k) at room
-
--- and which is put as such a line is;
-pub refused_put :
-    (c k : ℕ) {t after : List ℕ} {at end : ℕ}
-    → Put t at (line_text (114 ∷ 101 ∷ 102 ∷ 117 ∷ 115 ∷ 101 ∷ 100 ∷ []) c (32 ∷ 97 ∷ 116 ∷ []) k) after end
-    → Put t at (refused_text c k) after end
-unfolding bytes
-refused_put c k v = rw (refused_is c k) v
-
--- that of the route,
-route_is : (x y : ℕ) → route_text (figures x y) ≡ line_text (bytes "route") x [] y
-unfolding line_text bytes
-route_is x y = route_text_is (figures x y) ∙ five (bytes "route ") (digits 20 x) (bytes " ") (digits 20 y) (bytes "\n")
-
--- with its room,
-pub route_room :
-    (x y : ℕ) {t : List ℕ} {at : ℕ} → Room (route_text (figures x y)) t at
-    → Room (line_text (114 ∷ 111 ∷ 117 ∷ 116 ∷ 101 ∷ []) x [] y) t at
-unfolding bytes
-route_room x y room = rw (route_is x y) at room
-
--- put as such a line is;
-pub route_put :
-    (x y : ℕ) {t after : List ℕ} {at end : ℕ} → Put t at (line_text (114 ∷ 111 ∷ 117 ∷ 116 ∷ 101 ∷ []) x [] y) after end
-    → Put t at (route_text (figures x y)) after end
-unfolding bytes
-route_put x y v = rw (route_is x y) v
-
--- and that of a hop
-hop_is : (n x y : ℕ) → hop_text n (figures x y) ≡ (104 ∷ 111 ∷ 112 ∷ 32 ∷ digits 20 n) ++ line_text [] x [] y
-unfolding line_text bytes
-hop_is n x y =
-    hop_text_is n (figures x y)
-    ∙ seven (bytes "hop ") (digits 20 n) (bytes " ") (digits 20 x) (bytes " ") (digits 20 y) (bytes "\n")
-
-module _ (n x y : ℕ) {t : List ℕ} {at : ℕ} (room : Room (hop_text n (figures x y)) t at) where
-  -- there is room for its word and its number,
-  pub hop_number : Room (104 ∷ 111 ∷ 112 ∷ 32 ∷ digits 20 n) t at
-  hop_number = room_first (line_text [] x [] y) (rw (hop_is n x y) at room)
-
-  module _ {t1 : List ℕ} {a1 : ℕ} (p1 : Put t at (104 ∷ 111 ∷ 112 ∷ 32 ∷ digits 20 n) t1 a1) where
-    -- behind them for its figures,
-    pub hop_figures : Room (line_text [] x [] y) t1 a1
-    hop_figures = room_then p1 (rw (hop_is n x y) at room)
-
-    -- and then it is put
-    pub hop_put : {t2 : List ℕ} {a2 : ℕ} → Put t1 a1 (line_text [] x [] y) t2 a2 → Put t at (hop_text n (figures x y)) t2 a2
-    hop_put p2 = rw (hop_is n x y) (put_then p1 p2)
-
-pub ruleset putting_lines = (refused_room, refused_put, route_room, route_put, hop_number, hop_figures, hop_put)
+pub ruleset refusing = (refused_number, refused_profile, refused_put)

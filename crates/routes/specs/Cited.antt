@@ -7,30 +7,17 @@ use Rattle.meaning.specs.Server.{Server, Behind}
 use Rattle.meaning.specs.Refusal.{Clear, Verdict, curve_lines}
 use Rattle.meaning.specs.ServerQuestions.{ServerInRange, HopOutcome}
 use Rattle.meaning.specs.Profile.{profile_of, bytes_taken, buckets_of, server_in}
-use Rattle.meaning.specs.Route.{first_file, IsCurve, IsServer, due_lines, join_lines, joined_with, hop_lines, Figures, FiguresOf, digits, Route}
+use Rattle.meaning.specs.Route.{first_file, IsCurve, IsServer, due_lines, join_lines, joined_with, hop_lines, Figures, FiguresOf, numbers}
 
 -- ---- Text, piece by piece.
 
--- A text has room for bytes at a place.
-pub record Room (bytes text : List ℕ) (at : ℕ) : Type 0 where
-  pub fits : at + length bytes ≤ length text
+-- A text of 1,145 bytes at most has room for more.
+pub record Room (text more : List ℕ) : Type 0 where
+  pub fits : length text + length more ≤ 1145
 
--- Bytes are put at a place of a text: what stands before the next place is what stood before the place, and then these bytes.
-pub record Put (before : List ℕ) (at : ℕ) (bytes after : List ℕ) (next : ℕ) : Type 0 where
-  pub place : next ≡ at + length bytes
-  pub long : length after ≡ length before
-  pub is : take next after ≡ take at before ++ bytes
-
--- The last bytes of a list of 21, from a place on, are a space and the number in decimal.
-pub record Spelt (n from : ℕ) (list : List ℕ) : Type 0 where
-  pub inside : from ≤ 21
-  pub long : length list ≡ 21
-  pub is : drop from list ≡ 32 ∷ digits 20 n
-
--- Two numbers, each behind a word, a space before each number, and the end of the line.
-unfoldable pub line_text : List ℕ → ℕ → List ℕ → ℕ → List ℕ
-line_text word x between y =
-    (word ++ (32 ∷ digits 20 x)) ++ ((between ++ (32 ∷ digits 20 y)) ++ (10 ∷ []))
+-- A word, numbers with a space before each, and the end of the line.
+abbrev pub line_text : List ℕ → List ℕ → List ℕ
+line_text word list = word ++ numbers list ++ 10 ∷ []
 
 -- Backlog and delay.
 abbrev pub figures : ℕ → ℕ → Figures
@@ -113,9 +100,3 @@ pub record Starts (input f : List ℕ) (start : ℕ) (held : List ℕ) : Type 0 
   pub taken : start ≡ bytes_taken input
   pub holds : take (length f) held ≡ f
   pub long : length held ≡ 128
-
--- The text stands at the start of a list, up to a place. (The second line follows from the first: what lends that part asks for it.)
-pub record TextOf (input text : List ℕ) (end : ℕ) : Type 0 where
-  pub inside : end ≤ length text
-  pub lent : end ≡ length (take end text)
-  pub is : Route input (take end text)

@@ -1,9 +1,11 @@
 // Through the input, hop by hop: from the curve over each server to the line of the route, or to the one line of a refusal.
-ghost use Rattle.std.specs.Prelude.{◌≡◌, ◌≤◌, length, drop};
+ghost use Rattle.std.specs.Prelude.{◌≡◌, ◌≤◌, [], length, drop};
+ghost use Rattle.meaning.specs.Route.{Route};
 ghost use Rattle.servers.specs.Cited.{server_of};
-ghost use Rattle.routes.specs.Cited.{Due, JoinTo, HopAt, Stepping, Stepped, BehindProfile, Starts, TextOf};
+ghost use Rattle.routes.specs.Cited.{Due, JoinTo, HopAt, Stepping, Stepped, BehindProfile, Starts};
 
-use crate::{reading, text};
+use crate::reading;
+use crate::text::Text;
 use checks::limits;
 use operations::hops::Hop;
 use operations::{hops, ports};
@@ -109,33 +111,32 @@ fn behind_profile(input: &[u8], at: usize) -> usize
     at + reading::first_end(&input[at..])
 }
 
-// Goes on from the curve, whose list is `first`, and which takes `start` bytes. Answers the end of the text.
+// Goes on from the curve, whose list is `first`, and which takes `start` bytes.
 pub(crate) fn walk(
     input: &[u8],
     first: &[u64],
     start: usize,
     mut curve: [u64; 128],
-    text: &mut [u8],
-) -> usize
+    text: &mut Text,
+)
     requires starts { Starts input.now first.now start curve }
-    requires room { length text.old ≡ 1145 }
-    ensures { TextOf input.now text.new result }
+    requires empty { text.old ≡ [] }
+    ensures { Route input.now text.new }
 {
     let mut numbers = first.len();
     let mut next = [0u64; 128];
     let mut joined = servers::rated(0, 0);
     let mut passed = 0;
     let mut at = start;
-    let mut end = 0;
     while is_due(passed, at, input.len()) {
         if passed == SERVERS {
-            return text::put_refused(limits::COUNT, SERVERS + 2, text);
+            return text.refuse(limits::COUNT, SERVERS + 2);
         }
         let step = step_at(input, at, &curve[..numbers], &mut next, passed, joined);
         if step.code != 0 {
-            return text::put_refused(step.code, passed + 2, text);
+            return text.refuse(step.code, passed + 2);
         }
-        end = text::put_hop(passed + 1, step.backlog, step.delay, text, end);
+        text.put_hop(passed + 1, step.backlog, step.delay);
         passed += 1;
         at = behind_profile(input, at);
         curve = next;
@@ -144,5 +145,5 @@ pub(crate) fn walk(
     }
     let backlog = ports::backlog(first, joined);
     let delay = ports::delay(first, joined);
-    text::put_route(backlog.figure, delay.figure, text, end)
+    text.put_route(backlog.figure, delay.figure);
 }

@@ -4,9 +4,6 @@ use Rattle.routes.proofs.Reporting.{reporting}
 use Rattle.std.proofs.Common.{rules}
 use Rattle.routes.proofs.report.Goals as goal
 
-pub put_refused-requires : goal.put_refused-requires
-put_refused-requires c = search (reporting, rules)
-
 pub returns-then-read-ne0 : goal.returns-then-read-ne0
 returns-then-read-ne0 c = search (reporting, rules)
 

@@ -7,7 +7,7 @@ use Rattle.routes.proofs.walk.walk.Given as goal
 
 abbrev pub invariant-loop-curve : goal.invariant-loop-curve
 invariant-loop-curve l =
-    Walking l.input l.first l.initial.text l.text l.end l.passed (server_of l.joined) l.curve l.numbers l.next l.at
+    Walking l.input l.first l.text l.passed (server_of l.joined) l.curve l.numbers l.next l.at
 
 abbrev pub decreases-loop-curve : goal.decreases-loop-curve
 decreases-loop-curve l =
