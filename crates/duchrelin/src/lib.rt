@@ -9,13 +9,17 @@ ghost use Rattle.meaning.specs.ServerQuestions.{passing, BacklogOutcome, DelayOu
 ghost use Rattle.meaning.specs.Profile.{ReadNumbers, WriteCurveOutcome, WriteServerOutcome};
 ghost use Rattle.meaning.specs.Route.{RouteOutcome};
 ghost use Rattle.servers.specs.Cited.{numbers};
-ghost use Rattle.duchrelin.specs.Cited.{server_numbers, profile_numbers};
+ghost use Rattle.duchrelin.specs.Cited.{server_numbers, profile_numbers, AnswerTold, FigureTold, ServerTold, ProfileTold, WrittenTold};
 
+use checks::Refusal;
 use operations::{curves, hops, ports, value};
+use profiles::{Held, Profile};
+use servers::{Server, ServerAnswer};
+use settle::Part;
 
 // A code, 0 for an answer, and the number of buckets, 0 for a refusal.
 #[repr(C)]
-#[derive(Clone, Copy)]
+#[derive(Clone, Copy, Debug, PartialEq, Eq)]
 pub struct duchrelin_answer {
     pub code: u64,
     pub count: u64,
@@ -23,7 +27,7 @@ pub struct duchrelin_answer {
 
 // A code, 0 for an answer, and the figure, 0 for a refusal.
 #[repr(C)]
-#[derive(Clone, Copy)]
+#[derive(Clone, Copy, Debug, PartialEq, Eq)]
 pub struct duchrelin_figure {
     pub code: u64,
     pub figure: u64,
@@ -31,7 +35,7 @@ pub struct duchrelin_figure {
 
 // A code, 0 for an answer, and the server in numbers: kind 2 and zeros for a refusal.
 #[repr(C)]
-#[derive(Clone, Copy)]
+#[derive(Clone, Copy, Debug, PartialEq, Eq)]
 pub struct duchrelin_server {
     pub code: u64,
     pub kind: u64,
@@ -41,7 +45,7 @@ pub struct duchrelin_server {
 
 // A code, 0 for a file that is accepted, its edition and kind, the count of buckets of a curve, and the rate and latency of a server.
 #[repr(C)]
-#[derive(Clone, Copy)]
+#[derive(Clone, Copy, Debug, PartialEq, Eq)]
 pub struct duchrelin_profile {
     pub code: u64,
     pub edition: u64,
@@ -53,10 +57,111 @@ pub struct duchrelin_profile {
 
 // A code, 0 for an answer, and the number of bytes written, 0 for a refusal.
 #[repr(C)]
-#[derive(Clone, Copy)]
+#[derive(Clone, Copy, Debug, PartialEq, Eq)]
 pub struct duchrelin_written {
     pub code: u64,
     pub bytes: u64,
+}
+
+impl From<Result<usize, Refusal>> for duchrelin_answer {
+    ghost from_gives = { AnswerTold };
+
+    fn from(answer: Result<usize, Refusal>) -> duchrelin_answer {
+        match answer {
+            Ok(count) => duchrelin_answer {
+                code: 0,
+                count: count as u64,
+            },
+            Err(refusal) => duchrelin_answer {
+                code: refusal.into(),
+                count: 0,
+            },
+        }
+    }
+}
+
+impl From<Result<u64, Refusal>> for duchrelin_figure {
+    ghost from_gives = { FigureTold };
+
+    fn from(answer: Result<u64, Refusal>) -> duchrelin_figure {
+        match answer {
+            Ok(figure) => duchrelin_figure { code: 0, figure },
+            Err(refusal) => duchrelin_figure {
+                code: refusal.into(),
+                figure: 0,
+            },
+        }
+    }
+}
+
+impl From<Result<Server, Refusal>> for duchrelin_server {
+    ghost from_gives = { ServerTold };
+
+    fn from(answer: Result<Server, Refusal>) -> duchrelin_server {
+        let answer = ServerAnswer::from(answer);
+        let numbers = answer.server.numbers();
+        duchrelin_server {
+            code: answer.code,
+            kind: numbers.kind,
+            rate: numbers.rate,
+            latency: numbers.latency,
+        }
+    }
+}
+
+impl From<Result<Profile, Refusal>> for duchrelin_profile {
+    ghost from_gives = { ProfileTold };
+
+    fn from(answer: Result<Profile, Refusal>) -> duchrelin_profile {
+        match answer {
+            Ok(profile) => match profile.held {
+                Held::Curve(count) => duchrelin_profile {
+                    code: 0,
+                    edition: profile.edition,
+                    kind: profiles::CURVE,
+                    count: count as u64,
+                    rate: 0,
+                    latency: 0,
+                },
+                Held::Server(server) => {
+                    let held = server.numbers();
+                    duchrelin_profile {
+                        code: 0,
+                        edition: profile.edition,
+                        kind: held.kind,
+                        count: 0,
+                        rate: held.rate,
+                        latency: held.latency,
+                    }
+                }
+            },
+            Err(refusal) => duchrelin_profile {
+                code: refusal.into(),
+                edition: 0,
+                kind: 0,
+                count: 0,
+                rate: 0,
+                latency: 0,
+            },
+        }
+    }
+}
+
+impl From<Result<usize, Refusal>> for duchrelin_written {
+    ghost from_gives = { WrittenTold };
+
+    fn from(answer: Result<usize, Refusal>) -> duchrelin_written {
+        match answer {
+            Ok(bytes) => duchrelin_written {
+                code: 0,
+                bytes: bytes as u64,
+            },
+            Err(refusal) => duchrelin_written {
+                code: refusal.into(),
+                bytes: 0,
+            },
+        }
+    }
 }
 
 // A raw list brought to normal form.
@@ -64,11 +169,8 @@ pub struct duchrelin_written {
 pub extern "C" fn duchrelin_normalise(raw: &[u64], out: &mut [u64]) -> duchrelin_answer
     ensures { Outcome (normalising raw.now) out.old out.new result.code result.count }
 {
-    let answer = curves::normalise(raw, out);
-    duchrelin_answer {
-        code: answer.code,
-        count: answer.count,
-    }
+    let whole = Part::whole(out);
+    curves::normalise(raw, out, whole).into()
 }
 
 // What a curve gives at a tick: nothing at 0.
@@ -76,11 +178,7 @@ pub extern "C" fn duchrelin_normalise(raw: &[u64], out: &mut [u64]) -> duchrelin
 pub extern "C" fn duchrelin_value(curve: &[u64], tick: u64) -> duchrelin_figure
     ensures { ValueOutcome curve.now tick result.code result.figure }
 {
-    let answer = value::value(curve, tick);
-    duchrelin_figure {
-        code: answer.code,
-        figure: answer.figure,
-    }
+    value::value(curve, tick).into()
 }
 
 // What a curve lets come at once.
@@ -88,11 +186,7 @@ pub extern "C" fn duchrelin_value(curve: &[u64], tick: u64) -> duchrelin_figure
 pub extern "C" fn duchrelin_burst(curve: &[u64]) -> duchrelin_figure
     ensures { BurstOutcome curve.now result.code result.figure }
 {
-    let answer = value::burst(curve);
-    duchrelin_figure {
-        code: answer.code,
-        figure: answer.figure,
-    }
+    value::burst(curve).into()
 }
 
 // The lower of two curves.
@@ -100,11 +194,8 @@ pub extern "C" fn duchrelin_burst(curve: &[u64]) -> duchrelin_figure
 pub extern "C" fn duchrelin_lower(f: &[u64], g: &[u64], out: &mut [u64]) -> duchrelin_answer
     ensures { Outcome (lowering f.now g.now) out.old out.new result.code result.count }
 {
-    let answer = curves::lower(f, g, out);
-    duchrelin_answer {
-        code: answer.code,
-        count: answer.count,
-    }
+    let whole = Part::whole(out);
+    curves::lower(f, g, out, whole).into()
 }
 
 // Two curves added.
@@ -112,11 +203,8 @@ pub extern "C" fn duchrelin_lower(f: &[u64], g: &[u64], out: &mut [u64]) -> duch
 pub extern "C" fn duchrelin_sum(f: &[u64], g: &[u64], out: &mut [u64]) -> duchrelin_answer
     ensures { Outcome (summing f.now g.now) out.old out.new result.code result.count }
 {
-    let answer = curves::sum(f, g, out);
-    duchrelin_answer {
-        code: answer.code,
-        count: answer.count,
-    }
+    let whole = Part::whole(out);
+    curves::sum(f, g, out, whole).into()
 }
 
 // A curve shaped by a link of a rate and a longest frame.
@@ -129,11 +217,8 @@ pub extern "C" fn duchrelin_shape(
 ) -> duchrelin_answer
     ensures { Outcome (shaping curve.now rate frame) out.old out.new result.code result.count }
 {
-    let answer = curves::shape(curve, rate, frame, out);
-    duchrelin_answer {
-        code: answer.code,
-        count: answer.count,
-    }
+    let whole = Part::whole(out);
+    curves::shape(curve, rate, frame, out, whole).into()
 }
 
 // The server that joins the next one.
@@ -149,15 +234,7 @@ pub extern "C" fn duchrelin_join(
     ensures { JoinNumbers (numbers kind rate latency) (numbers next_kind next_rate next_latency) result.code (server_numbers result) }
 {
     let first = servers::named(kind, rate, latency);
-    let answer = first.join(servers::named(next_kind, next_rate, next_latency));
-    let server = answer.server;
-    let joined = server.numbers();
-    duchrelin_server {
-        code: answer.code,
-        kind: joined.kind,
-        rate: joined.rate,
-        latency: joined.latency,
-    }
+    first.join(servers::named(next_kind, next_rate, next_latency)).into()
 }
 
 // The curve behind a server.
@@ -171,11 +248,8 @@ pub extern "C" fn duchrelin_behind(
 ) -> duchrelin_answer
     ensures { Outcome (passing curve.now (server_named (numbers kind rate latency))) out.old out.new result.code result.count }
 {
-    let answer = hops::behind(curve, servers::named(kind, rate, latency), out);
-    duchrelin_answer {
-        code: answer.code,
-        count: answer.count,
-    }
+    let whole = Part::whole(out);
+    hops::behind(curve, servers::named(kind, rate, latency), out, whole).into()
 }
 
 // The most bits that wait at a server.
@@ -188,11 +262,7 @@ pub extern "C" fn duchrelin_backlog(
 ) -> duchrelin_figure
     ensures { BacklogOutcome curve.now (server_named (numbers kind rate latency)) result.code result.figure }
 {
-    let answer = ports::backlog(curve, servers::named(kind, rate, latency));
-    duchrelin_figure {
-        code: answer.code,
-        figure: answer.figure,
-    }
+    ports::backlog(curve, servers::named(kind, rate, latency)).into()
 }
 
 // The ticks within which all is served.
@@ -205,11 +275,7 @@ pub extern "C" fn duchrelin_delay(
 ) -> duchrelin_figure
     ensures { DelayOutcome curve.now (server_named (numbers kind rate latency)) result.code result.figure }
 {
-    let answer = ports::delay(curve, servers::named(kind, rate, latency));
-    duchrelin_figure {
-        code: answer.code,
-        figure: answer.figure,
-    }
+    ports::delay(curve, servers::named(kind, rate, latency)).into()
 }
 
 // The server that is left beside cross traffic.
@@ -222,15 +288,7 @@ pub extern "C" fn duchrelin_residual(
 ) -> duchrelin_server
     ensures { ResidualNumbers cross.now (numbers kind rate latency) result.code (server_numbers result) }
 {
-    let answer = ports::residual(servers::named(kind, rate, latency), cross);
-    let server = answer.server;
-    let left = server.numbers();
-    duchrelin_server {
-        code: answer.code,
-        kind: left.kind,
-        rate: left.rate,
-        latency: left.latency,
-    }
+    ports::residual(servers::named(kind, rate, latency), cross).into()
 }
 
 // The one profile that a file holds.
@@ -238,17 +296,8 @@ pub extern "C" fn duchrelin_residual(
 pub extern "C" fn duchrelin_read(file: &[u8], out: &mut [u64]) -> duchrelin_profile
     ensures { ReadNumbers file.now out.old out.new (profile_numbers result) }
 {
-    let answer = profiles::read(file, out);
-    let server = answer.server;
-    let held = server.numbers();
-    duchrelin_profile {
-        code: answer.code,
-        edition: answer.edition,
-        kind: answer.kind,
-        count: answer.count,
-        rate: held.rate,
-        latency: held.latency,
-    }
+    let whole = Part::whole(out);
+    profiles::read(file, out, whole).into()
 }
 
 // A curve as a file of an edition.
@@ -260,11 +309,7 @@ pub extern "C" fn duchrelin_write_curve(
 ) -> duchrelin_written
     ensures { WriteCurveOutcome edition curve.now buffer.old buffer.new result.code result.bytes }
 {
-    let answer = profiles::write_curve(edition, curve, buffer);
-    duchrelin_written {
-        code: answer.code,
-        bytes: answer.bytes,
-    }
+    profiles::write_curve(edition, curve, buffer).into()
 }
 
 // A server as a file of an edition.
@@ -278,11 +323,7 @@ pub extern "C" fn duchrelin_write_server(
 ) -> duchrelin_written
     ensures { WriteServerOutcome edition (server_named (numbers kind rate latency)) buffer.old buffer.new result.code result.bytes }
 {
-    let answer = profiles::write_server(edition, servers::named(kind, rate, latency), buffer);
-    duchrelin_written {
-        code: answer.code,
-        bytes: answer.bytes,
-    }
+    profiles::write_server(edition, servers::named(kind, rate, latency), buffer).into()
 }
 
 // The report of a route, as text.
@@ -290,9 +331,5 @@ pub extern "C" fn duchrelin_write_server(
 pub extern "C" fn duchrelin_route(input: &[u8], text: &mut [u8]) -> duchrelin_written
     ensures { RouteOutcome input.now text.old text.new result.code result.bytes }
 {
-    let answer = routes::route(input, text);
-    duchrelin_written {
-        code: answer.code,
-        bytes: answer.bytes,
-    }
+    routes::route(input, text).into()
 }

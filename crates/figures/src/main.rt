@@ -5,26 +5,46 @@
 
 ghost use Rattle.std.specs.Prelude.{◌≤◌};
 
-use operations::curves::{lower_in, normalise, normalise_in, shape, shape_in, sum_in};
-use operations::hops::behind_in;
-use profiles::read_in;
-use servers::Server;
-use settle::Answer;
+use checks::Refusal;
+use operations::curves::{lower, normalise, shape, sum};
+use operations::hops::behind;
+use profiles::{Held, Profile, read};
+use servers::{Server, ServerAnswer};
+use settle::Part;
 use std::{array, io};
 
+// The part of a table that answers go into: the numbers from 3 on, of which there are five.
+const MIDDLE: Part = Part { at: 3, room: 5 };
+
+// The words, and the code and the count of an answer.
+fn show_told(rt: &impl Print, words: &str, answer: Result<usize, Refusal>) -> io::Result<()> {
+    match answer {
+        Ok(count) => print!(rt; "{words} 0 {count}"),
+        Err(refusal) => {
+            let code = u64::from(refusal);
+            print!(rt; "{words} {code} 0")
+        }
+    }
+}
+
 // A line: the words, the code, the count, and that many buckets of the list.
-fn show(rt: &impl Print, words: &str, answer: Answer, list: &[u64]) -> io::Result<()> {
-    print!(rt; "{words} {} {}", answer.code, answer.count)?;
-    show_buckets(rt, answer.count, list)?;
+fn show(
+    rt: &impl Print,
+    words: &str,
+    answer: Result<usize, Refusal>,
+    list: &[u64],
+) -> io::Result<()> {
+    show_told(rt, words, answer)?;
+    show_buckets(rt, answer.unwrap_or(0), list)?;
     println!(rt)
 }
 
 // Short answers are shown in full; of a long one the count says enough.
-fn show_buckets(rt: &impl Print, count: u64, list: &[u64]) -> io::Result<()> {
+fn show_buckets(rt: &impl Print, count: usize, list: &[u64]) -> io::Result<()> {
     if 5 < count {
         return Ok(());
     }
-    for number in list.iter().take(2 * count as usize) {
+    for number in list.iter().take(2 * count) {
         print!(rt; " {number}")?;
     }
     Ok(())
@@ -34,11 +54,10 @@ fn show_buckets(rt: &impl Print, count: u64, list: &[u64]) -> io::Result<()> {
 fn show_table(
     rt: &impl Print,
     words: &str,
-    code: u64,
-    count: u64,
+    answer: Result<usize, Refusal>,
     table: &[u64],
 ) -> io::Result<()> {
-    print!(rt; "{words} {code} {count}")?;
+    show_told(rt, words, answer)?;
     show_buckets(rt, 5, table)?;
     println!(rt)
 }
@@ -46,75 +65,54 @@ fn show_table(
 // Normalises the five raw buckets of P1 into a part of a table, the numbers from 3 on, and shows the whole table.
 fn show_in_part(rt: &impl Print, words: &str, room: usize) -> io::Result<()> {
     let mut table = [9u64; 10];
-    let answer = normalise_in(&[3, 20, 10, 2, 10, 2, 5, 15, 3, 25], &mut table, 3, room);
-    show_table(rt, words, answer.code, answer.count, &table)
+    let raw = [3, 20, 10, 2, 10, 2, 5, 15, 3, 25];
+    let answer = normalise(&raw, &mut table, Part { at: 3, room });
+    show_table(rt, words, answer, &table)
 }
 
-// Curves that other questions answer into a part of a table: the numbers from 3 on, of which there are five.
+// Curves that other questions answer into a part of a table.
 fn show_curves_in_parts(rt: &impl Print) -> io::Result<()> {
     let mut table = [9u64; 10];
-    let lowered = lower_in(&[10, 2], &[3, 20], &mut table, 3, 5);
-    show_table(
-        rt,
-        "lower {(10,2)} and {(3,20)} into a part:",
-        lowered.code,
-        lowered.count,
-        &table,
-    )?;
+    let lowered = lower(&[10, 2], &[3, 20], &mut table, MIDDLE);
+    show_table(rt, "lower {(10,2)} and {(3,20)} into a part:", lowered, &table)?;
 
     let mut table = [9u64; 10];
-    let added = sum_in(&[10, 2], &[3, 20], &mut table, 3, 5);
-    show_table(
-        rt,
-        "sum {(10,2)} and {(3,20)} into a part:",
-        added.code,
-        added.count,
-        &table,
-    )?;
+    let added = sum(&[10, 2], &[3, 20], &mut table, MIDDLE);
+    show_table(rt, "sum {(10,2)} and {(3,20)} into a part:", added, &table)?;
 
     let mut table = [9u64; 10];
-    let shaped = shape_in(&[3, 20], 10, 2, &mut table, 3, 5);
+    let shaped = shape(&[3, 20], 10, 2, &mut table, MIDDLE);
     show_table(
         rt,
         "shape {(3,20)} by 10 with frames of 2, into a part:",
-        shaped.code,
-        shaped.count,
+        shaped,
         &table,
     )
+}
+
+// How many buckets a profile has.
+fn buckets(profile: Profile) -> usize {
+    match profile.held {
+        Held::Curve(count) => count,
+        Held::Server(_) => 0,
+    }
 }
 
 // The same at a server, and from a file.
 fn show_ports_in_parts(rt: &impl Print) -> io::Result<()> {
+    let curve = [10, 2, 3, 20];
     let mut table = [9u64; 10];
-    let passed = behind_in(&[10, 2, 3, 20], servers::rated(6, 1), &mut table, 3, 5);
-    show_table(
-        rt,
-        "P5's curve behind (6,1) into a part:",
-        passed.code,
-        passed.count,
-        &table,
-    )?;
+    let passed = behind(&curve, servers::rated(6, 1), &mut table, MIDDLE);
+    show_table(rt, "P5's curve behind (6,1) into a part:", passed, &table)?;
 
     let mut table = [9u64; 10];
-    let late = behind_in(&[10, 2, 3, 20], servers::pure_delay(4), &mut table, 3, 5);
-    show_table(
-        rt,
-        "that curve behind a delay of 4 into a part:",
-        late.code,
-        late.count,
-        &table,
-    )?;
+    let late = behind(&curve, servers::pure_delay(4), &mut table, MIDDLE);
+    show_table(rt, "that curve behind a delay of 4 into a part:", late, &table)?;
 
     let mut table = [9u64; 10];
     let file = [0x11, 0x00, 0x00, 0x02, 0x80, 0x00, 0x00, 0x00, 0x00, 0x80];
-    let read = read_in(&file, &mut table, 3, 5);
-    show_table(
-        rt,
-        "P11's curve read into a part:",
-        read.code,
-        read.count,
-        &table,
-    )
+    let held = read(&file, &mut table, MIDDLE).map(buckets);
+    show_table(rt, "P11's curve read into a part:", held, &table)
 }
 
 // Buckets (200 - i, i * i): rates fall and crossings rise, so each is useful.
@@ -127,16 +125,15 @@ fn spread<const N: usize>() -> [[u64; 2]; N]
 // Normalises a raw list, and shows what is answered.
 fn show_normalised(rt: &impl Print, words: &str, raw: &[u64]) -> io::Result<()> {
     let mut out = [0u64; 128];
-    let answer = normalise(raw, &mut out);
+    let answer = normalise(raw, &mut out, Part { at: 0, room: 128 });
     show(rt, words, answer, &out)
 }
 
 // Joins a server of rate 1 and the longest latency with another one, and shows what is answered.
 fn show_joined(rt: &impl Print, words: &str, next: Server) -> io::Result<()> {
     let longest = servers::rated(1, 1_048_575);
-    let answer = longest.join(next);
-    let server = answer.server;
-    let joined = server.numbers();
+    let answer = ServerAnswer::from(longest.join(next));
+    let joined = answer.server.numbers();
     println!(rt;
         "{words} {} {} {} {}",
         answer.code, joined.kind, joined.rate, joined.latency,
@@ -146,7 +143,7 @@ fn show_joined(rt: &impl Print, words: &str, next: Server) -> io::Result<()> {
 // {(3,20)} shaped by a link of rate 10 with frames of up to so many bits.
 fn show_shaped(rt: &impl Print, words: &str, frame: u64) -> io::Result<()> {
     let mut out = [0u64; 4];
-    let shaped = shape(&[3, 20], 10, frame, &mut out);
+    let shaped = shape(&[3, 20], 10, frame, &mut out, Part { at: 0, room: 4 });
     show(rt, words, shaped, &out)
 }
 

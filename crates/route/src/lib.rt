@@ -49,8 +49,7 @@ pub extern "C" fn duchrelin_route_program(stdin: Stdin, stdout: Stdout, stderr: 
     }
     let count = got.count;
     let mut text = [0u8; TEXT_BYTES];
-    let written = routes::route(&input[..count], &mut text);
-    let bytes = written.bytes as usize;
+    let bytes = routes::route(&input[..count], &mut text).unwrap_or(0);
     if let Err(error) = pipe::send(&stdout, &text[..bytes]) {
         complain(&stderr, "route: standard output", error);
         return FAILED;

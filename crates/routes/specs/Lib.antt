@@ -1,1 +1,2 @@
 pub mod Cited
+pub mod Told

@@ -7,8 +7,9 @@ mod walk;
 
 ghost use Rattle.std.specs.Prelude.{◌≡◌, []};
 ghost use Rattle.meaning.specs.Route.{Route, RouteOutcome};
+ghost use Rattle.checks.specs.Table.{code_of, told};
 
-use profiles::Written;
+use checks::Refusal;
 use text::Text;
 
 // Puts the text of an input.
@@ -17,20 +18,19 @@ fn report(input: &[u8], text: &mut Text)
     ensures { Route input.now text.new }
 {
     let mut first = [0u64; 128];
-    let read = reading::read_curve(input, &mut first);
-    if read.code != 0 {
-        return text.refuse(read.code, 1);
-    }
-    let numbers = read.numbers;
+    let numbers = match reading::read_curve(input, &mut first) {
+        Ok(numbers) => numbers,
+        Err(refusal) => return text.refuse(refusal, 1),
+    };
     let start = profiles::bytes_taken(input);
     let curve = first;
     walk::walk(input, &first[..numbers], start, curve, text);
 }
 
 // The text of a route, from the curve and the servers that the input holds: a line for each hop and the line of the route, or the
-// one line of a refusal, at the start of a lent buffer. It is ROOM where the buffer is too short.
-pub fn route(input: &[u8], text: &mut [u8]) -> Written
-    ensures { RouteOutcome input.now text.old text.new result.code result.bytes }
+// one line of a refusal, at the start of a lent buffer. Answers how many bytes it has; it is ROOM where the buffer is too short.
+pub fn route(input: &[u8], text: &mut [u8]) -> Result<usize, Refusal>
+    ensures { RouteOutcome input.now text.old text.new (code_of result) (told result) }
 {
     let mut held = Text::new();
     report(input, &mut held);

@@ -1,9 +1,12 @@
 // The lines of a route's text, put one behind the other.
 ghost use Rattle.std.specs.Prelude.{◌≡◌, ◌∷◌, [], ◌++◌};
 ghost use Rattle.meaning.specs.Route.{digits, numbers, hop_text, route_text, refused_text};
+ghost use Rattle.meaning.specs.Refusal.{number};
+ghost use Rattle.checks.specs.Table.{line_of};
 ghost use Rattle.routes.specs.Cited.{Room, line_text, figures};
 
 use arrayvec::ArrayString;
+use checks::Refusal;
 use itoa::Buffer;
 use std::marker::Model;
 
@@ -93,12 +96,12 @@ impl Text {
     }
 
     // Puts the line of a refusal in place of what is put: the number, and which profile is refused.
-    pub(crate) fn refuse(&mut self, code: u64, profile: u64)
-        ensures { self.new ≡ refused_text code profile }
+    pub(crate) fn refuse(&mut self, refusal: Refusal, profile: u64)
+        ensures { self.new ≡ refused_text (number (line_of refusal)) profile }
     {
         self.held.clear();
         self.put("refused");
-        self.put_numbers(&[code]);
+        self.put_numbers(&[u64::from(refusal)]);
         self.put_line(" at", &[profile]);
     }
 }

@@ -1,25 +1,26 @@
 // Through the input, hop by hop: from the curve over each server to the line of the route, or to the one line of a refusal.
 ghost use Rattle.std.specs.Prelude.{◌≡◌, ◌≤◌, [], length, drop};
 ghost use Rattle.meaning.specs.Route.{Route};
-ghost use Rattle.servers.specs.Cited.{server_of};
-ghost use Rattle.routes.specs.Cited.{Due, JoinTo, HopAt, Stepping, Stepped, BehindProfile, Starts};
+ghost use Rattle.checks.specs.Table.{code_of};
+ghost use Rattle.servers.specs.Cited.{server_of, server_told};
+ghost use Rattle.routes.specs.Cited.{Due, JoinTo, Stepping, BehindProfile, Starts};
+ghost use Rattle.routes.specs.Told.{HopTold, StepTold};
 
 use crate::reading;
 use crate::text::Text;
-use checks::limits;
+use checks::{Refusal, limits};
 use operations::hops::Hop;
 use operations::{hops, ports};
-use servers::{Server, ServerAnswer};
+use servers::Server;
+use settle::Part;
 
 // A route has at most 32 servers.
 const SERVERS: u64 = 32;
 
-// A hop of the route: a code, 0 for an answer; the number of buckets of the curve behind, backlog and delay; and the servers joined
-// so far.
-#[derive(Clone, Copy)]
+// A hop of the route: the number of buckets of the curve behind, backlog and delay, and the servers joined so far.
+#[derive(Clone, Copy, Debug, PartialEq, Eq)]
 struct Step {
-    code: u64,
-    count: u64,
+    count: usize,
     backlog: u64,
     delay: u64,
     joined: Server,
@@ -29,43 +30,28 @@ struct Step {
 fn is_due(passed: u64, at: usize, end: usize) -> bool
     ensures { Due passed at end result }
 {
-    if passed == 0 {
-        return true;
-    }
-    at < end
+    passed == 0 || at < end
 }
 
 // The server joined with those before it: the first one by itself.
-fn join_to(passed: u64, joined: Server, next: Server) -> ServerAnswer
-    ensures { JoinTo passed (server_of joined) (server_of next) result.code (server_of result.server) }
+fn join_to(passed: u64, joined: Server, next: Server) -> Result<Server, Refusal>
+    ensures { JoinTo passed (server_of joined) (server_of next) (code_of result) (server_told result) }
 {
     if passed == 0 {
-        return ServerAnswer {
-            code: 0,
-            server: next,
-        };
+        return Ok(next);
     }
     joined.join(next)
 }
 
 // The hop at the server that stands at a place of the input: it is read, and the curve passes it.
-fn hop_at(input: &[u8], at: usize, curve: &[u64], next: &mut [u64]) -> Hop
+fn hop_at(input: &[u8], at: usize, curve: &[u64], next: &mut [u64]) -> Result<Hop, Refusal>
     requires at_in_bounds { at ≤ length input.now }
     requires room { length next.old ≡ 128 }
-    ensures { HopAt (drop at input.now) curve.now next.new result.code result.count result.backlog result.delay (server_of result.server) }
+    ensures { HopTold (drop at input.now) curve.now next.new result }
 {
-    let read = reading::read_server(&input[at..]);
-    let server = read.server;
-    if read.code != 0 {
-        return Hop {
-            code: read.code,
-            count: 0,
-            backlog: 0,
-            delay: 0,
-            server,
-        };
-    }
-    hops::pass(curve, server, next)
+    let server = reading::read_server(&input[at..])?;
+    let whole = Part::whole(next);
+    hops::pass(curve, server, next, whole)
 }
 
 // The same, joined with the servers before it. The first of reading, passing and joining that is refused has the smallest number.
@@ -76,31 +62,20 @@ fn step_at(
     next: &mut [u64],
     passed: u64,
     joined: Server,
-) -> Step
+) -> Result<Step, Refusal>
     requires at_in_bounds { at ≤ length input.now }
     requires stepping { Stepping curve.now passed (server_of joined) }
     requires room { length next.old ≡ 128 }
-    ensures { Stepped curve.now passed (server_of joined) (drop at input.now) next.new result.code result.count result.backlog result.delay (server_of result.joined) }
+    ensures { StepTold curve.now passed (server_of joined) (drop at input.now) next.new result }
 {
-    let hop = hop_at(input, at, curve, next);
-    if hop.code != 0 {
-        return Step {
-            code: hop.code,
-            count: 0,
-            backlog: 0,
-            delay: 0,
-            joined,
-        };
-    }
-    let all = join_to(passed, joined, hop.server);
-    let server = all.server;
-    Step {
-        code: all.code,
+    let hop = hop_at(input, at, curve, next)?;
+    let all = join_to(passed, joined, hop.server)?;
+    Ok(Step {
         count: hop.count,
         backlog: hop.backlog,
         delay: hop.delay,
-        joined: server,
-    }
+        joined: all,
+    })
 }
 
 // The place behind the profile that stands at a place of the input, as far as there are bytes.
@@ -130,20 +105,20 @@ pub(crate) fn walk(
     let mut at = start;
     while is_due(passed, at, input.len()) {
         if passed == SERVERS {
-            return text.refuse(limits::COUNT, SERVERS + 2);
+            return text.refuse(Refusal::Count, SERVERS + 2);
         }
-        let step = step_at(input, at, &curve[..numbers], &mut next, passed, joined);
-        if step.code != 0 {
-            return text.refuse(step.code, passed + 2);
-        }
+        let step = match step_at(input, at, &curve[..numbers], &mut next, passed, joined) {
+            Ok(step) => step,
+            Err(refusal) => return text.refuse(refusal, passed + 2),
+        };
         text.put_hop(passed + 1, step.backlog, step.delay);
         passed += 1;
         at = behind_profile(input, at);
         curve = next;
-        numbers = limits::BUCKET_NUMBERS * step.count as usize;
+        numbers = limits::BUCKET_NUMBERS * step.count;
         joined = step.joined;
     }
-    let backlog = ports::backlog(first, joined);
-    let delay = ports::delay(first, joined);
-    text.put_route(backlog.figure, delay.figure);
+    let backlog = ports::backlog(first, joined).unwrap();
+    let delay = ports::delay(first, joined).unwrap();
+    text.put_route(backlog, delay);
 }
