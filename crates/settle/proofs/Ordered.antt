@@ -16,7 +16,8 @@ use Rattle.meaning.specs.Curve.{Bucket, ◌∈◌}
 use Rattle.checks.specs.Cited.{Tells, bucket_of}
 use Rattle.checks.specs.declared.Bucket as held
 use Rattle.checks.proofs.Ranges.{tells_yes, tells_no}
-use Rattle.settle.specs.Cited.{bucket_in, buckets_in, Ahead, is_ahead, InOrder, Leave, ComesInOrder}
+use Rattle.settle.specs.Order.{bucket_in, buckets_in, Ahead, is_ahead, InOrder, Leave}
+use Rattle.settle.specs.Cited.{Comes}
 use Rattle.settle.specs.declared.candidates.Candidates.{Candidates}
 use Rattle.meaning.proofs.Order.{not_above}
 use Rattle.settle.proofs.Steepest.{ahead_same, ahead_further, tells_ahead}
@@ -68,26 +69,33 @@ tells_in_order pairs false (k, inside, apart) =
 
 -- The candidates once some that are not below the bound are passed.
 pub record Passing (start now : Candidates) : Type 0 where
+  pub in_order : now.ordered ≡ true
   pub same : now.bound ≡ start.bound
   pub left : Leave start.bound (buckets_in start.left.now) (buckets_in now.left.now)
-  pub in_order : InOrder (buckets_in now.left.now)
 
 pub leave_all : {bound : ℕ} {f : List Bucket} → Leave bound f f
 leave_all = record { among = λ k m. m; kept = λ k m b. m }
 
-pub passing_start : {start : Candidates} → InOrder (buckets_in start.left.now) → Passing start start
-passing_start o = record { same = refl; left = leave_all; in_order = o }
+pub passing_start : {start : Candidates} → start.ordered ≡ true → Passing start start
+passing_start o = record { in_order = o; same = refl; left = leave_all }
+
+-- where buckets are in order, those behind the first one are
+pub in_order_rest :
+    {pairs : List (List ℕ)} {first : List ℕ} {rest : List (List ℕ)} → pairs ≡ first ∷ rest → InOrder (buckets_in pairs)
+    → InOrder (buckets_in rest)
+unfolding InOrder
+in_order_rest {first = first} {rest = rest} e o =
+    let l : InOrder (buckets_in (first ∷ rest)) = rw e at o in l.1
 
 module _ {start now : Candidates} (w : Passing start now) where
   -- none is left
-  pub comes_none : now.left.now ≡ [] → ComesInOrder start None now
+  pub comes_none : now.left.now ≡ [] → Comes start None now
   comes_none e =
       record {
         best = record {
           told = λ k m. not_above (λ b. Memᴰ.not-nil (subst (λ (l : List (List ℕ)). k ∈ buckets_in l) e (w.left.kept k m b)));
         };
         left = w.left;
-        in_order = w.in_order;
       }
 
   module _
@@ -97,12 +105,12 @@ module _ {start now : Candidates} (w : Passing start now) where
       begins : buckets_in now.left.now ≡ bucket_of next ∷ buckets_in rest
       begins = ap buckets_in e ∙ ap (λ (k : Bucket). k ∷ buckets_in rest) (sym is)
 
-      ordered : ((j : Bucket) → j ∈ buckets_in rest → Ahead (bucket_of next) j) × InOrder (buckets_in rest)
+      first_ahead : (j : Bucket) → j ∈ buckets_in rest → Ahead (bucket_of next) j
       unfolding InOrder
-      ordered = subst InOrder begins w.in_order
+      first_ahead = (subst InOrder begins (now.in_order w.in_order)).0
 
       -- the first that is left is below the bound
-      pub comes_first_lem : next.rate < now.bound → ComesInOrder start (Some next) now
+      pub comes_first_lem : next.rate < now.bound → Comes start (Some next) now
       comes_first_lem below =
           record {
             best = record {
@@ -113,28 +121,28 @@ module _ {start now : Candidates} (w : Passing start now) where
               };
             };
             left = w.left;
-            in_order = w.in_order;
           }
         where
           split : (k : Bucket) → (k ≡ bucket_of next) ⊎ (k ∈ buckets_in rest) → Ahead (bucket_of next) k
           split k (inl s) = ahead_same s
-          split k (inr m) = ordered.0 k m
+          split k (inr m) = first_ahead k m
 
       -- it is not
       pub passing_step :
-          now.bound ≤ next.rate → {after : Candidates} → after.bound ≡ now.bound → after.left.now ≡ rest → Passing start after
-      passing_step past {after} b l =
+          now.bound ≤ next.rate → {after : Candidates} → after.bound ≡ now.bound → after.ordered ≡ now.ordered
+          → after.left.now ≡ rest → Passing start after
+      passing_step past {after} b o l =
           record {
+            in_order = o ∙ w.in_order;
             same = b ∙ w.same;
             left = record {
               among = λ k m. w.left.among k (rw begins (Memᴰ.tail (rw l at m)));
               kept = λ k m below. rw l (split k below (Memᴰ.cases_cons (rw begins at (w.left.kept k m below))));
             };
-            in_order = rw l ordered.1;
           }
         where
           split : (k : Bucket) → k.rate < start.bound → (k ≡ bucket_of next) ⊎ (k ∈ buckets_in rest) → k ∈ buckets_in rest
           split k below (inl s) = absurd (omega (arith, w.same, ap (λ (x : Bucket). x.rate) s))
           split k below (inr m) = m
 
-pub ruleset passing = (passing_start, comes_none, comes_first_lem, passing_step)
+pub ruleset passing = (passing_start, in_order_rest, comes_none, comes_first_lem, passing_step)

@@ -11,7 +11,8 @@ use lib.Seq.{drop-cons}
 use Rattle.std.specs.Simd.{first_chunks}
 use Rattle.std.specs.List.{flat_map}
 use Rattle.meaning.specs.Curve.{Bucket, buckets, flat}
-use Rattle.settle.specs.Cited.{bucket_in, buckets_in, numbers}
+use Rattle.settle.specs.Order.{bucket_in, buckets_in}
+use Rattle.settle.specs.Cited.{numbers}
 
 -- as many pairs as come out of a list have its buckets
 chunks_are : (n : ℕ) (l : List ℕ) → n ≡ length l / 2 → buckets_in (first_chunks 2 n l) ≡ buckets l

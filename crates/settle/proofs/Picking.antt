@@ -22,7 +22,8 @@ use Rattle.meaning.specs.Computed.{Ends, every_time, narrowed, is_open, stays_op
 use Rattle.meaning.proofs.Curve.Usefulness.{useful_sound, useful_complete}
 use Rattle.meaning.proofs.Curve.Normal.{Chosen, chosen_among}
 use Rattle.checks.specs.Cited.{bucket_of}
-use Rattle.settle.specs.Cited.{Wide, AllWide, ends_of, Leaves, bucket_in, buckets_in, numbers, Ahead, InOrder, First, Best, Leave, Starts, Comes, Chose}
+use Rattle.settle.specs.Order.{bucket_in, buckets_in, Ahead, First, Best, Leave}
+use Rattle.settle.specs.Cited.{Wide, AllWide, ends_of, Leaves, numbers, Starts, Comes, Bounds, Chose}
 use Rattle.checks.specs.declared.Bucket as held_bucket
 use Rattle.settle.specs.declared.candidates.Candidates.{Candidates}
 use Rattle.settle.specs.declared.ends.Ends as held_ends
@@ -223,7 +224,6 @@ not_both (Err x) o e = cc o
 -- buckets below it.
 pub record Picked (pairs chosen : List (List ℕ)) (left : Candidates) : Type 0 where
   pub wide : AllWide (buckets_in pairs)
-  pub in_order : left.ordered ≡ true → InOrder (buckets_in left.left.now)
   pub all : Leave left.bound (buckets_in pairs) (buckets_in left.left.now)
   pub front : List Bucket
   pub rest : List Bucket
@@ -236,7 +236,6 @@ pub picked_start :
 picked_start {pairs} wide none s =
     record {
       wide = wide;
-      in_order = rw s.all s.in_order;
       all = rw s.all leave_all;
       front = [];
       rest = normal (buckets_in pairs);
@@ -245,9 +244,6 @@ picked_start {pairs} wide none s =
     }
 
 module _ {pairs chosen : List (List ℕ)} {left : Candidates} (w : Picked pairs chosen left) where
-  pub picked_in_order : left.ordered ≡ true → InOrder (buckets_in left.left.now)
-  picked_in_order = w.in_order
-
   module _ {found : Option held_bucket.Bucket} {after : Candidates} (comes : Comes left found after) where
     -- no bucket is left below the bound
     pub picked_end : found ≡ None → {E : Type 0} → Chose {Refused = E} (buckets_in pairs) chosen (Ok tt)
@@ -261,7 +257,7 @@ module _ {pairs chosen : List (List ℕ)} {left : Candidates} (w : Picked pairs 
           over_many = λ o. cc o;
         }
 
-    module _ {c : held_bucket.Bucket} (e : found ≡ Some c) where
+    module _ (bounds : Bounds found after) {c : held_bucket.Bucket} (e : found ≡ Some c) where
       first : First left.bound (buckets_in pairs) (bucket_of c)
       first =
           let b : Best left.bound (buckets_in left.left.now) (Some c) = rw e at comes.best in
@@ -272,7 +268,7 @@ module _ {pairs chosen : List (List ℕ)} {left : Candidates} (w : Picked pairs 
           }
 
       pub picked_less : after.bound < left.bound
-      picked_less = omega (arith, first.below, comes.bound_is c e)
+      picked_less = omega (arith, first.below, bounds.bound_is c e)
 
       -- the search over the candidate begins
       pub searched_start : {ends : held_ends.Ends} → ends_of ends ≡ every_time → Searched pairs c ends 0
@@ -294,11 +290,10 @@ module _ {pairs chosen : List (List ℕ)} {left : Candidates} (w : Picked pairs 
       picked_skip useless =
           record {
             wide = w.wide;
-            in_order = comes.in_order;
             all = all_left;
             front = w.front;
             rest = w.rest;
-            parted = rw (comes.bound_is c e) (parted_skip w.parted first useless);
+            parted = rw (bounds.bound_is c e) (parted_skip w.parted first useless);
             stands = w.stands;
           }
 
@@ -331,13 +326,12 @@ module _ {pairs chosen : List (List ℕ)} {left : Candidates} (w : Picked pairs 
         picked_take grown =
             record {
               wide = w.wide;
-              in_order = comes.in_order;
               all = all_left;
               front = w.front ++ bucket_of c ∷ [];
               rest = taken.left;
               parted =
                   subst (λ (n : ℕ). Parted (buckets_in pairs) n (w.front ++ bucket_of c ∷ []) taken.left)
-                  (sym (comes.bound_is c e)) taken.parted;
+                  (sym (bounds.bound_is c e)) taken.parted;
               stands =
                   grown
                   ∙ ap (λ (l : List (List ℕ)). l ++ (c.rate ∷ c.burst ∷ []) ∷ []) w.stands
@@ -352,7 +346,6 @@ pub ruleset picking = (
   searched_shut,
   searched_step,
   picked_start,
-  picked_in_order,
   picked_end,
   picked_less,
   picked_skip,

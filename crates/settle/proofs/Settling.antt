@@ -22,7 +22,8 @@ use Rattle.std.specs.Simd.{first_chunks}
 use Rattle.std.specs.List.{flat_map}
 use Rattle.std.proofs.Common.{Result}
 use Rattle.std.specs.Result.{is_ok, is_err}
-use Rattle.settle.specs.Cited.{AllWide, settling, delivering, buckets_in, Chose}
+use Rattle.settle.specs.Order.{buckets_in}
+use Rattle.settle.specs.Cited.{AllWide, settling, delivering, Chose}
 use Rattle.settle.proofs.Pairs.{pairs_are, numbers_are}
 use Rattle.checks.proofs.Checks.{passed}
 use Rattle.checks.proofs.Ranges.{within_unless}

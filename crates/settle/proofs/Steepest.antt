@@ -18,7 +18,7 @@ use Rattle.std.proofs.lemmas.Bool.{cond_both}
 use Rattle.std.proofs.lemmas.List.{map_more}
 use Rattle.meaning.specs.Curve.{Bucket, ◌∈◌}
 use Rattle.checks.specs.Cited.{Tells, bucket_of}
-use Rattle.settle.specs.Cited.{bucket_in, buckets_in, Ahead, is_ahead, First, Best, Keeps}
+use Rattle.settle.specs.Order.{bucket_in, buckets_in, Ahead, is_ahead, First, Best, Keeps}
 use Rattle.checks.specs.declared.Bucket as held
 use Rattle.meaning.proofs.Order.{not_above}
 

@@ -1,11 +1,11 @@
 -- What the contracts of this crate's own functions cite, beside the definitions of the crate meaning.
 -- Assumes nothing.
-use Rattle.std.specs.Prelude.{◌≡◌, Bool, true, false, cond, eqb, leb, ltb, map, List, [], ◌∷◌, ◌++◌, ℕ, ◌^◌, ◌≤◌, ◌<◌, length, get_or, take, drop, Option, Some, MatchOption, Result, IsOk, IsErr}
-use Rattle.meaning.specs.Curve.{Bucket, ◌∈◌, buckets, NormalOf}
+use Rattle.std.specs.Prelude.{◌≡◌, Bool, true, false, map, List, [], ◌∷◌, ◌++◌, ℕ, ◌^◌, ◌≤◌, ◌<◌, length, take, drop, Option, Some, MatchOption, Result, IsOk, IsErr}
+use Rattle.meaning.specs.Curve.{Bucket, buckets, NormalOf}
 use Rattle.meaning.specs.Computed.{Ends, is_open, normal}
 use Rattle.meaning.specs.Refusal.{LIST, RANGE, ◌when◌, ◌or◌, Within, AllWithin, Uneven, Question, over, part}
-use Rattle.checks.specs.Cited.{bucket_of}
 use Rattle.checks.specs.declared.Bucket as held_bucket
+use Rattle.settle.specs.Order.{buckets_in, Best, Leave}
 use Rattle.settle.specs.declared.candidates.Candidates.{Candidates}
 use Rattle.settle.specs.declared.ends.Ends as held_ends
 use Rattle.settle.specs.declared.ends.Time.{Time}
@@ -42,65 +42,19 @@ pub record Leaves (e : Ends) (x : Option held_ends.Ends) : Type 0 where
 
 -- ---- The candidates.
 
--- The bucket of two numbers, its rate and then its burst.
-abbrev pub bucket_in : List ℕ → Bucket
-bucket_in pair = record { rate = get_or pair 0 0; burst = get_or pair 1 0 }
-
--- The buckets of a list that has two numbers for each.
-abbrev pub buckets_in : List (List ℕ) → List Bucket
-buckets_in pairs = map bucket_in pairs
-
--- By falling rates, and by rising bursts among those of one rate, c is not behind k.
-pub record Ahead (c k : Bucket) : Type 0 where
-  pub steeper : k.rate ≤ c.rate
-  pub lower : k.rate ≡ c.rate → c.burst ≤ k.burst
-
--- The same as a test.
-unfoldable pub is_ahead : Bucket → Bucket → Bool
-is_ahead c k = cond (eqb k.rate c.rate) (leb c.burst k.burst) (ltb k.rate c.rate)
-
--- Buckets that stand in that order: rates never rise, and among those of one rate bursts never fall.
-unfoldable pub InOrder : List Bucket → Type 0
-InOrder [] = Unit {0}
-InOrder (k ∷ f) = ((j : Bucket) → j ∈ f → Ahead k j) × InOrder f
-
--- Of the buckets with a rate below the bound c is the first by that order.
-pub record First (bound : ℕ) (f : List Bucket) (c : Bucket) : Type 0 where
-  pub inside : c ∈ f
-  pub below : c.rate < bound
-  pub ahead : (k : Bucket) → k ∈ f → k.rate < bound → Ahead c k
-
--- The first of them is found, or that there is none.
-pub record Best (bound : ℕ) (f : List Bucket) (found : Option held_bucket.Bucket) : Type 0 where
-  pub told : MatchOption found ((k : Bucket) → k ∈ f → bound ≤ k.rate) (λ c. First bound f (bucket_of c))
-
--- Of every list of which the one is the best, the other is the best once the next bucket is added.
-pub record Keeps (bound : ℕ) (best : Option held_bucket.Bucket) (next : held_bucket.Bucket) (after : Option held_bucket.Bucket) : Type 0 where
-  pub added : (f : List Bucket) → Best bound f best → Best bound (f ++ bucket_of next ∷ []) after
-
--- Some buckets are left of a list, all with a rate below the bound among them.
-pub record Leave (bound : ℕ) (f left : List Bucket) : Type 0 where
-  pub among : (k : Bucket) → k ∈ left → k ∈ f
-  pub kept : (k : Bucket) → k ∈ f → k.rate < bound → k ∈ left
-
 -- The candidates of the pairs are sought, from the first on.
 pub record Starts (pairs : List (List ℕ)) (x : Candidates) : Type 0 where
   pub all : x.left.now ≡ pairs
   pub bound_is : x.bound ≡ 2 ^ 20
-  pub in_order : x.ordered ≡ true → InOrder (buckets_in pairs)
 
--- The next candidate comes, and its rate is the next bound.
+-- The next candidate comes, and all buckets with a rate below the bound are still among those that are left.
 pub record Comes (before : Candidates) (found : Option held_bucket.Bucket) (after : Candidates) : Type 0 where
   pub best : Best before.bound (buckets_in before.left.now) found
-  pub bound_is : (c : held_bucket.Bucket) → found ≡ Some c → after.bound ≡ c.rate
   pub left : Leave before.bound (buckets_in before.left.now) (buckets_in after.left.now)
-  pub in_order : after.ordered ≡ true → InOrder (buckets_in after.left.now)
 
--- The same where they stand in order; the bound stays.
-pub record ComesInOrder (before : Candidates) (found : Option held_bucket.Bucket) (after : Candidates) : Type 0 where
-  pub best : Best before.bound (buckets_in before.left.now) found
-  pub left : Leave before.bound (buckets_in before.left.now) (buckets_in after.left.now)
-  pub in_order : InOrder (buckets_in after.left.now)
+-- Its rate is the next bound.
+pub record Bounds (found : Option held_bucket.Bucket) (after : Candidates) : Type 0 where
+  pub bound_is : (c : held_bucket.Bucket) → found ≡ Some c → after.bound ≡ c.rate
 
 -- ---- What is written.
 

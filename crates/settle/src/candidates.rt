@@ -1,8 +1,9 @@
 // The candidates for the normal form among raw buckets: by falling rates, the one of smallest burst of each rate. Where the
 // buckets stand in that order, one pass finds them all; where not, there is a pass for each.
 ghost use Rattle.std.specs.Prelude.{◌≡◌, true};
+ghost use Rattle.std.specs.Coded.{→_prop};
 ghost use Rattle.checks.specs.Cited.{Tells, bucket_of};
-ghost use Rattle.settle.specs.Cited.{bucket_in, buckets_in, is_ahead, InOrder, Keeps, Best, Starts, Comes, ComesInOrder};
+ghost use Rattle.settle.specs.Order.{bucket_in, buckets_in, is_ahead, InOrder, InOrder-prop, Keeps, Best};
 
 use checks::{Bucket, limits};
 
@@ -61,9 +62,12 @@ pub(crate) struct Candidates<'a> {
     left: &'a [[u64; 2]],
     bound: u64,
     ordered: bool,
+    ghost in_order: { ordered ≡ true → InOrder (buckets_in left.now) } by { →_prop (InOrder-prop (buckets_in left.now)) },
 }
 
 impl<'a> Candidates<'a> {
+    ghost use Rattle.settle.specs.Cited.{Starts, Comes, Bounds};
+
     // All of them.
     pub(crate) fn of(pairs: &'a [[u64; 2]]) -> Candidates<'a>
         ensures { Starts pairs.now result }
@@ -77,8 +81,8 @@ impl<'a> Candidates<'a> {
 
     // The next one, if there is one.
     pub(crate) fn next(&mut self) -> Option<Bucket>
-        requires { self.old.ordered ≡ true → InOrder (buckets_in self.old.left.now) }
-        ensures { Comes self.old result self.new }
+        ensures comes { Comes self.old result self.new }
+        ensures bounds { Bounds result self.new }
     {
         let next = if self.ordered {
             self.next_in_order()?
@@ -91,8 +95,8 @@ impl<'a> Candidates<'a> {
 
     // The first bucket with a rate below the bound, which is the next one where they stand in order; those before it are passed.
     fn next_in_order(&mut self) -> Option<Bucket>
-        requires { InOrder (buckets_in self.old.left.now) }
-        ensures { ComesInOrder self.old result self.new }
+        requires { self.old.ordered ≡ true }
+        ensures { Comes self.old result self.new }
     {
         while let Some((first, rest)) = self.left.split_first() {
             let next = bucket(first);

@@ -1,7 +1,8 @@
 // The search for the useful buckets among raw ones, in local memory: candidates by falling rates, and over each a search through
 // all buckets that is left at the first proof that the candidate is useless.
 ghost use Rattle.std.specs.Prelude.{◌≡◌, []};
-ghost use Rattle.settle.specs.Cited.{buckets_in, AllWide, Chose};
+ghost use Rattle.settle.specs.Order.{buckets_in};
+ghost use Rattle.settle.specs.Cited.{AllWide, Chose};
 
 use crate::candidates::{Candidates, bucket};
 use crate::ends::Ends;

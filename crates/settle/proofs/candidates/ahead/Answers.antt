@@ -1,7 +1,7 @@
 -- `ahead` tests two buckets.
 -- Assumes nothing.
 use borrow.Author.Tests.{eq-eqb, ne_eqb}
-use Rattle.settle.specs.Cited.{is_ahead}
+use Rattle.settle.specs.Order.{is_ahead}
 use Rattle.settle.proofs.candidates.ahead.Goals as goal
 
 pub returns-then-k-c : goal.returns-then-k-c

@@ -7,3 +7,6 @@ returns-then-next-self c = search (passing, c.in-Some.ensures.cases.0, rules)
 
 pub loop-first-preserved : goal.loop-first-preserved
 loop-first-preserved c = search (passing, c.in-Some.ensures.cases.0, rules)
+
+pub invariant_of-self : goal.invariant_of-self
+invariant_of-self c = search (passing, c.in-Some.ensures.cases.0, rules)
