@@ -10,8 +10,8 @@ use lib.Seq.{take_all, length-take-le}
 use mir.Syntax.{w64}
 use mir.Val.{Fits}
 use Rattle.meaning.specs.Server.{Server}
-use Rattle.meaning.specs.Refusal.{Outcome, Question}
-use Rattle.meaning.specs.Profile.{kind_in, bytes_taken, ReadOutcome}
+use Rattle.meaning.specs.Refusal.{HEADER, number, Outcome, Question}
+use Rattle.meaning.specs.Profile.{kind_in, bytes_taken, Reading, ReadOutcome}
 use Rattle.meaning.specs.Route.{first_file}
 use Rattle.meaning.proofs.Outcome.Slips.{refusal_keeps}
 use Rattle.meaning.proofs.Outcome.Answers.{fits_few, answered_list, outcome_length}
@@ -52,7 +52,8 @@ count_few {code = code} {count = count} o =
 
 module _ {input : List ℕ} {k : ℕ} (kind : k ≡ kind_in input) where
   -- something else stands there
-  pub curve_missing : {list : List ℕ} → length list ≡ 128 → (k ≡ 1 → ⊥) → CurveRead input list 1 0
+  pub curve_missing : {list : List ℕ} → length list ≡ 128 → (k ≡ 1 → ⊥) → CurveRead input list (number HEADER) 0
+  unfolding number
   curve_missing long other =
       record {
         verdict = no_curve_there input (λ e. other (kind ∙ e));
@@ -62,37 +63,30 @@ module _ {input : List ℕ} {k : ℕ} (kind : k ≡ kind_in input) where
         long = long;
       }
 
-  module _ {end : ℕ} (first : FirstEnd input end) {before after : List ℕ} {code edition told count : ℕ} {s : Server} where
+  module _ {end : ℕ} (first : FirstEnd input end) {before after : List ℕ} {x : Reading} where
     -- it is read
     pub curve_read :
-        length before ≡ 128 → k ≡ 1
-        → ReadOutcome (take end input) before after (record { code = code; edition = edition; kind = told; count = count; server = s })
-        → CurveRead input after code (2 * count)
+        length before ≡ 128 → k ≡ 1 → ReadOutcome (take end input) before after x → CurveRead input after x.code (2 * x.count)
     curve_read long curve o =
         let file = rw first.is at o in
         let after_long : length after ≡ 128 = outcome_length o.list ∙ long in
-        let few : 2 * count ≤ length after = omega (arith, count_few o.list) in
+        let few : 2 * x.count ≤ length after = omega (arith, count_few o.list) in
         record {
           verdict = curve_code input file (sym kind ∙ curve) (omega arith);
           told = λ e. curve_told input file e;
           inside = few;
-          lent = sym (length-take-le (2 * count) after few);
+          lent = sym (length-take-le (2 * x.count) after few);
           long = after_long;
         }
 
     -- its numbers can be counted
-    pub curve_numbers :
-        ReadOutcome (take end input) before after (record { code = code; edition = edition; kind = told; count = count; server = s })
-        → Fits w64 (2 * count)
+    pub curve_numbers : ReadOutcome (take end input) before after x → Fits w64 (2 * x.count)
     curve_numbers o = record { fits = omega (arith, count_few o.list) }
 
     -- ---- A server.
 
     -- it is read
-    pub server_read :
-        (k ≡ 1 → ⊥)
-        → ReadOutcome (take end input) before after (record { code = code; edition = edition; kind = told; count = count; server = s })
-        → ServerRead input code s
+    pub server_read : (k ≡ 1 → ⊥) → ReadOutcome (take end input) before after x → ServerRead input x.code x.server
     server_read other o =
         let file = rw first.is at o in
         record {
@@ -101,7 +95,6 @@ module _ {input : List ℕ} {k : ℕ} (kind : k ≡ kind_in input) where
         }
 
   -- a curve stands there
-  pub server_missing : {code : ℕ} {s : Server} → k ≡ 1 → code ≡ 1 → ServerRead input code s
-  server_missing curve is = rw is (record { verdict = curve_there input (sym kind ∙ curve); told = λ e. absurd (omega arith) })
-
-pub ruleset reading_due = (curve_missing, curve_read, curve_numbers, server_read, server_missing)
+  pub server_missing : {s : Server} → k ≡ 1 → ServerRead input (number HEADER) s
+  unfolding number
+  server_missing curve = record { verdict = curve_there input (sym kind ∙ curve); told = λ e. absurd (omega arith) }
