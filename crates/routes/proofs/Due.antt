@@ -9,13 +9,14 @@ use lib.ListN.{length, take}
 use lib.Seq.{take_all, length-take-le}
 use mir.Syntax.{w64}
 use mir.Val.{Fits}
-use Rattle.meaning.specs.Server.{Server}
+use Rattle.meaning.specs.Server.{Server, rated, pure_delay, no_server, numbers_of}
 use Rattle.meaning.specs.Refusal.{HEADER, number, Outcome, Question}
-use Rattle.meaning.specs.Profile.{kind_in, bytes_taken, Reading, ReadOutcome}
+use Rattle.meaning.specs.Profile.{server, kind_of, kind_in, server_held, bytes_taken, Reading, ReadOutcome}
 use Rattle.meaning.specs.Route.{first_file}
 use Rattle.meaning.proofs.Outcome.Slips.{refusal_keeps}
 use Rattle.meaning.proofs.Outcome.Answers.{fits_few, answered_list, outcome_length}
-use Rattle.meaning.proofs.Route.BackToBack.{cut_short}
+use Rattle.meaning.proofs.Profile.Files.{held_curve, held_server}
+use Rattle.meaning.proofs.Route.BackToBack.{cut_short, same_start}
 use Rattle.meaning.proofs.Route.Winning.{curve_there, no_curve_there}
 use Rattle.meaning.proofs.Route.Codes.{server_code, curve_code, server_told, curve_told}
 use Rattle.routes.specs.Cited.{FirstEnd, CurveRead, ServerRead}
@@ -98,3 +99,32 @@ module _ {input : List ℕ} {k : ℕ} (kind : k ≡ kind_in input) where
   pub server_missing : {s : Server} → k ≡ 1 → ServerRead input (number HEADER) s
   unfolding number
   server_missing curve = record { verdict = curve_there input (sym kind ∙ curve); told = λ e. absurd (omega arith) }
+
+-- ---- What is read is what is due.
+
+-- no server has the kind of a curve
+server_kind : (s : Server) → (numbers_of s).kind ≡ 1 → ⊥
+server_kind (rated s) e = omega (arith, e)
+server_kind (pure_delay latency) e = omega (arith, e)
+
+module _ {input : List ℕ} {k : ℕ} (kind : k ≡ kind_in input) {end : ℕ} (first : FirstEnd input end) where
+  -- the first file has that kind
+  first_kind : k ≡ kind_in (take end input)
+  first_kind = rw first.is (kind ∙ sym (same_start input).kind_same)
+
+  -- no server is read of a curve's file,
+  pub no_server_read :
+      {before after : List ℕ} {ed : ℕ} (s : Server) → k ≡ 1
+      → ReadOutcome (take end input) before after (record { code = 0; edition = ed; kind = kind_of (server s); count = 0; server = s })
+      → ⊥
+  no_server_read s curve o =
+      server_kind s ((o.told.accepted refl).1 ∙ ap kind_of (held_curve (take end input) (sym first_kind ∙ curve)))
+
+  -- and no curve of a server's
+  pub no_curve_read :
+      {before after : List ℕ} {ed n : ℕ} → (k ≡ 1 → ⊥)
+      → ReadOutcome (take end input) before after (record { code = 0; edition = ed; kind = 1; count = n; server = no_server })
+      → ⊥
+  no_curve_read other o =
+      server_kind (server_held (take end input))
+      (sym ((o.told.accepted refl).1 ∙ ap kind_of (held_server (take end input) (λ e. other (first_kind ∙ e)))))

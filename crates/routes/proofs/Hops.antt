@@ -14,10 +14,10 @@ use borrow.Author.Tests.{ltb-true, ltb-false}
 use Rattle.meaning.specs.Curve.{curve_of, list_of}
 use Rattle.meaning.specs.Server.{Server, Behind}
 use Rattle.meaning.specs.Refusal.{Clear, Verdict, accepted, TooLarge}
-use Rattle.meaning.specs.ServerQuestions.{ServerInRange, port_lines, passing, JoinOutcome, HopOutcome}
+use Rattle.meaning.specs.ServerQuestions.{ServerInRange, port_lines, passing, JoinOutcome, HopOutcome, HopPartOutcome}
 use Rattle.meaning.specs.Profile.{profile_of, bytes_taken, server_in}
 use Rattle.meaning.specs.Route.{IsServer, due_lines, hop_lines}
-use Rattle.meaning.proofs.Outcome.Outcomes.{clear_or}
+use Rattle.meaning.proofs.Outcome.Outcomes.{clear_or, whole_list}
 use Rattle.meaning.proofs.Outcome.Answers.{clear_list, code_zero, fits_few, read_back, AnsweredList, answered_list, outcome_length}
 use Rattle.meaning.proofs.Outcome.Demands.{answered_join}
 use Rattle.meaning.proofs.Server.BothKinds.{behind_unique}
@@ -25,6 +25,12 @@ use Rattle.meaning.proofs.Route.BackToBack.{first_length}
 use Rattle.meaning.proofs.Route.Line.{JoinedInRange}
 use Rattle.meaning.proofs.Route.Winning.{reading_decides, join_decides, pass_decides}
 use Rattle.meaning.proofs.Route.Codes.{join_code, roomy}
+use Rattle.std.specs.Prelude.{Result, Ok, Err}
+use Rattle.checks.specs.declared.refusal.Refusal.{Refusal}
+use Rattle.settle.specs.declared.part.Part.{Part}
+use Rattle.operations.specs.declared.hops.Hop.{Hop}
+use Rattle.operations.specs.Told as of_hops
+use Rattle.routes.specs.Told.{HopTold}
 use Rattle.routes.specs.Cited.{FirstEnd, ServerRead, Due, joined_after, JoinTo, HopAt, unread, asked, Stepping, Stepped, BehindProfile}
 
 -- ---- Whether a server is due.
@@ -89,7 +95,20 @@ module _
         → HopAt (drop at input) f after code count backlog delay through
     hop_asked e long o = asked _ long ((code_zero here.verdict).0 e) (rw (here.told e) at o)
 
-pub ruleset hop_laws = (hop_unread, hop_asked)
+-- a hop into a part that is all of a list is a hop into the list
+whole_hop :
+    {f lent after : List ℕ} {s : Server} {at room code count backlog delay : ℕ} {through : Server} → at ≡ 0 → room ≡ length lent
+    → HopPartOutcome f s at room lent after code count backlog delay through
+    → HopOutcome f s lent after code count backlog delay through
+whole_hop {f} {s = s} start end o = record { curve = whole_list (passing f s) (rw (start, end) at o.curve); figures = o.figures }
+
+-- so what the hop answers is what comes of the server that stands there
+pub hop_passed :
+    (input : List ℕ) (at : ℕ) {s : Server} → ServerRead (take (length input - at) (drop at input)) 0 s
+    → {f lent after : List ℕ} {part : Part} → part.at ≡ 0 → part.room ≡ length lent → length lent ≡ 128
+    → (answer : Result Hop Refusal) → of_hops.HopTold f s part lent after answer → HopTold (drop at input) f after answer
+hop_passed input at read start end long (Ok hop) o = hop_asked input at read refl long (whole_hop start end o)
+hop_passed input at read start end long (Err r) o = hop_asked input at read refl long (whole_hop start end o)
 
 -- ---- The hop with the servers before it.
 
@@ -189,7 +208,14 @@ module _ (rest : List ℕ) {f : List ℕ} (after : List ℕ) {passed : ℕ} {joi
   step_joined (unread v other long) answered j = absurd (other answered)
   step_joined (asked lent long clear o) answered j = answered_step clear (rw answered at o) j long
 
-pub ruleset step_laws = (step_refused, step_joined)
+  -- where joining refuses, nothing of the hop is told
+  pub step_unjoined :
+      {count backlog delay : ℕ} {s : Server} {join_code : ℕ} {all none : Server}
+      → HopAt rest f after 0 count backlog delay s → JoinTo passed joined s join_code all → (join_code ≡ 0 → ⊥)
+      → Stepped f passed joined rest after join_code 0 0 0 none
+  step_unjoined h j nonzero =
+      let step = step_joined h refl j in
+      refused_step step.long nonzero step.verdict
 
 -- ---- The place behind a profile.
 

@@ -16,6 +16,7 @@ use mir.Syntax.{w64}
 use mir.Val.{Fits}
 use Rattle.meaning.specs.Curve.{width, curve_of}
 use Rattle.meaning.specs.Server.{Server}
+use Rattle.meaning.specs.Refusal.{COUNT, number}
 use Rattle.meaning.specs.ServerQuestions.{BacklogOutcome, DelayOutcome}
 use Rattle.meaning.specs.Profile.{profile_of, bytes_taken, buckets_of}
 use Rattle.meaning.specs.Route.{hop_text, route_text, refused_text, Route}
@@ -117,12 +118,24 @@ module _
             pub route_line_room : Room text (route_text (figures backlog delay))
             route_line_room = line_room text _ ended_route
 
+            -- both figures are answered
+            pub route_answered : (code ≡ 0) × (delay_code ≡ 0)
+            route_answered =
+                let all =
+                going_answered
+                (subst (λ (j : Option Server). Going input first text passed j (take numbers curve) at)
+                (joined_some passed passed_some) w.going)
+                (d.is_not ended).1 (figures backlog delay) b l
+                in
+                (all.0, all.1)
+
       -- ---- Bytes after 32 servers.
 
       module _ (more : due ≡ true) where
         module _ (all_passed : passed ≡ 32) where
           -- the refusal is the text
-          pub over_route : {all : List ℕ} → all ≡ refused_text 5 34 → Route input all
+          pub over_route : {all : List ℕ} → all ≡ refused_text (number COUNT) 34 → Route input all
+          unfolding number
           over_route is = rw is (going_over w.going all_passed (left (d.is_due more)))
             where
               left : (passed ≡ 0) ⊎ (at < length input) → at < length input

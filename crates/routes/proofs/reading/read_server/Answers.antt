@@ -1,11 +1,25 @@
 -- `read_server` reads the server that an input begins with.
 -- Assumes nothing.
-use Rattle.routes.proofs.Due.{reading_due}
-use Rattle.std.proofs.Common.{rules}
+use Rattle.std.proofs.lemmas.Result.{err_from_is_err_and}
+use Rattle.profiles.proofs.Readings.{read_whole}
+use Rattle.routes.proofs.Due.{server_missing, server_read, no_curve_read}
 use Rattle.routes.proofs.reading.read_server.Goals as goal
 
 pub returns-then-kind_in-eq-CURVE : goal.returns-then-kind_in-eq-CURVE
-returns-then-kind_in-eq-CURVE c = search (reading_due, rules)
+returns-then-kind_in-eq-CURVE c = server_missing c.kind_in.ensures c.if-kind_in-eq-CURVE.true
+
+pub returns-in_err-server : goal.returns-in_err-server
+returns-in_err-server c =
+    let p = err_from_is_err_and c.from_residual.result c.from_residual.ensures.1 in
+    rw (p.1, p.2)
+    (server_read c.kind_in.ensures c.first_end-end.ensures c.if-kind_in-eq-CURVE.false (read_whole _ c.in_err-server.ensures))
+
+pub unreachable-requires : goal.unreachable-requires
+unreachable-requires c =
+    no_curve_read c.kind_in.ensures c.first_end-end.ensures c.if-kind_in-eq-CURVE.false
+    (read_whole _ (rw c.in-Curve.is at c.in_ok-server.ensures))
 
 pub returns : goal.returns
-returns c = search (reading_due, rules)
+returns c =
+    server_read c.kind_in.ensures c.first_end-end.ensures c.if-kind_in-eq-CURVE.false
+    (read_whole _ (rw c.in-Server.is at c.in_ok-server.ensures))

@@ -1,11 +1,16 @@
 -- `hop_at` reads a server and passes the curve through it.
 -- Assumes nothing.
-use Rattle.routes.proofs.Hops.{hop_laws}
-use Rattle.std.proofs.Common.{rules}
+use Rattle.std.proofs.lemmas.Result.{err_from_is_err_and}
+use Rattle.checks.proofs.Numbers.{number_some}
+use Rattle.routes.proofs.Hops.{hop_unread, hop_passed}
 use Rattle.routes.proofs.walk.hop_at.Goals as goal
 
-pub returns-then-read-ne0 : goal.returns-then-read-ne0
-returns-then-read-ne0 c = search (hop_laws, rules)
+pub returns-in_err-server : goal.returns-in_err-server
+returns-in_err-server c =
+    let p = err_from_is_err_and c.from_residual.result c.from_residual.ensures.1 in
+    rw (p.1, p.2) (hop_unread c.args.input.now c.args.at c.in_err-server.ensures (number_some _) c.requires.room)
 
 pub returns : goal.returns
-returns c = search (hop_laws, rules)
+returns c =
+    hop_passed c.args.input.now c.args.at c.in_ok-server.ensures c.whole-whole.ensures.start c.whole-whole.ensures.end
+    c.requires.room c.pass.result c.pass.ensures
