@@ -102,32 +102,24 @@ module _
             (code delay_code backlog delay : ℕ)
             (b : BacklogOutcome first joined code backlog) (l : DelayOutcome first joined delay_code delay)
           where
-            -- the line of the route is what is left,
-            ended_route : Route input (text ++ route_text (figures backlog delay))
-            ended_route =
-                (going_answered
-                (subst (λ (j : Option Server). Going input first text passed j (take numbers curve) at)
-                (joined_some passed passed_some) w.going)
-                (d.is_not ended).1 (figures backlog delay) b l).2
-
-            -- with it the text ends,
-            pub route_line : {all : List ℕ} → all ≡ text ++ route_text (figures backlog delay) → Route input all
-            route_line is = rw is ended_route
-
-            -- and there is room for it
-            pub route_line_room : Room text (route_text (figures backlog delay))
-            route_line_room = line_room text _ ended_route
-
-            -- both figures are answered
-            pub route_answered : (code ≡ 0) × (delay_code ≡ 0)
-            route_answered =
-                let all =
+            -- both figures are answered, and the line of the route is what is left;
+            ended_so : (code ≡ 0) × (delay_code ≡ 0) × Route input (text ++ route_text (figures backlog delay))
+            ended_so =
                 going_answered
                 (subst (λ (j : Option Server). Going input first text passed j (take numbers curve) at)
                 (joined_some passed passed_some) w.going)
                 (d.is_not ended).1 (figures backlog delay) b l
-                in
-                (all.0, all.1)
+
+            pub route_answered : (code ≡ 0) × (delay_code ≡ 0)
+            route_answered = (ended_so.0, ended_so.1)
+
+            -- with it the text ends,
+            pub route_line : {all : List ℕ} → all ≡ text ++ route_text (figures backlog delay) → Route input all
+            route_line is = rw is ended_so.2
+
+            -- and there is room for it
+            pub route_line_room : Room text (route_text (figures backlog delay))
+            route_line_room = line_room text _ ended_so.2
 
       -- ---- Bytes after 32 servers.
 
