@@ -1,11 +1,11 @@
 -- The numbers of refusals, and which of two wins.
 -- Assumes nothing.
-use Rattle.std.proofs.Common.{◌≡◌, refl, sym, ap, subst, ◌+◌, min, Result, Ok, Err, arith}
+use Rattle.std.proofs.Common.{◌≡◌, refl, ap, ◌+◌, min, Result, Ok, Err, arith}
 use Rattle.std.specs.Result.{IsErrAnd}
 use borrow.Author.Tests.{ne_eqb}
 use Rattle.std.specs.Ordering.{ord_min}
 use denote.Enum.Declared.{tag_of}
-use Rattle.meaning.specs.Refusal.{number, Lines, Verdict}
+use Rattle.meaning.specs.Refusal.{number}
 use Rattle.meaning.specs.Computed.{earlier}
 use Rattle.meaning.proofs.Outcome.Outcomes.{number_positive}
 use Rattle.checks.specs.Table.{GivesNumber, line_of, code_of}
@@ -63,16 +63,10 @@ number_min Room = each _ (refl, refl, refl, refl, refl, refl, refl, refl, refl, 
 pub number_some : (r : Refusal) → number (line_of r) ≡ 0 → ⊥
 number_some r z = omega (arith, z, number_positive (line_of r))
 
--- it keeps its number
-pub handed_on : {A : Type 0} (x : Result A Refusal) (r : Refusal) → IsErrAnd x (λ q. q ≡ r) → code_of x ≡ number (line_of r)
-handed_on (Ok y) r h = absurd h
-handed_on (Err q) r h = ap (λ r. number (line_of r)) h
-
--- so what its number wins is won by the code handed on
-pub verdict_on :
-    {lines : Lines} {A : Type 0} (x : Result A Refusal) (r : Refusal) → IsErrAnd x (λ q. q ≡ r) → Verdict lines (number (line_of r))
-    → Verdict lines (code_of x)
-verdict_on {lines} x r h v = subst (Verdict lines) (sym (handed_on x r h)) v
+-- it is handed on as it is
+pub refused_as : {A : Type 0} (x : Result A Refusal) (r : Refusal) → IsErrAnd x (λ q. q ≡ r) → x ≡ Err r
+refused_as (Ok y) r h = absurd h
+refused_as (Err q) r h = ap Err h
 
 -- ---- Two tests: the refusal that wins.
 

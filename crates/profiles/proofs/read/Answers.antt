@@ -1,15 +1,13 @@
 -- `read` meets its contract: the frame is refused, or a server is read and the table stays, or a curve is read into the part.
 -- Assumes nothing.
 use Rattle.std.proofs.Common.{refl}
-use Rattle.std.proofs.lemmas.Result.{err_from_is_err_and}
-use Rattle.checks.proofs.Numbers.{number_some}
+use Rattle.checks.proofs.Numbers.{number_some, refused_as}
 use Rattle.profiles.proofs.Readings.{frame_refused, framed_server, framed_curve}
 use Rattle.profiles.proofs.read.Goals as goal
 
 pub returns-in_err-refusal : goal.returns-in_err-refusal
 returns-in_err-refusal c =
-    let p = err_from_is_err_and c.from_residual.result c.from_residual.ensures.1 in
-    rw (p.1, p.2) (frame_refused c.in_err-refusal.ensures (number_some _) refl)
+    rw (refused_as _ _ c.from_residual.ensures.1) (frame_refused c.in_err-refusal.ensures (number_some _) refl)
 
 pub server-requires : goal.server-requires
 server-requires c = framed_server c.in_ok-refusal.ensures c.kind_in.ensures c.if-kind_in-ne-CURVE.true

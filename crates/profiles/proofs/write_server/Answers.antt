@@ -1,8 +1,7 @@
 -- `write_server` meets its contract: the edition or the server is refused, or it is packed and handed over.
 -- Assumes nothing.
 use Rattle.std.proofs.Common.{rules, refl, ap, not}
-use Rattle.std.proofs.lemmas.Result.{err_from_is_err_and}
-use Rattle.checks.proofs.Numbers.{number_some}
+use Rattle.checks.proofs.Numbers.{number_some, refused_as}
 use Rattle.profiles.proofs.Handing.{server_writes, write_server_refused, write_server_ranged, write_server_handed}
 use Rattle.profiles.proofs.write_server.Goals as goal
 
@@ -11,8 +10,7 @@ returns-then-not-has_kind c = search (server_writes, rules)
 
 pub returns-in_err-refusal : goal.returns-in_err-refusal
 returns-in_err-refusal c =
-    let p = err_from_is_err_and c.from_residual.result c.from_residual.ensures.1 in
-    rw (p.1, p.2)
+    rw (refused_as _ _ c.from_residual.ensures.1)
     (write_server_refused _ c.numbers.ensures c.has_kind.ensures (ap not c.if-not-has_kind.false) c.in_err-refusal.ensures (number_some _))
 
 pub pack_server-writer-requires : goal.pack_server-writer-requires

@@ -1,15 +1,13 @@
 -- `settle` meets its contract: each refusal in its place, and the normal form handed over.
 -- Assumes nothing.
 use Rattle.std.proofs.Common.{refl}
-use Rattle.std.proofs.lemmas.Result.{err_from_is_err_and}
-use Rattle.checks.proofs.Numbers.{number_some}
+use Rattle.checks.proofs.Numbers.{number_some, refused_as}
 use Rattle.settle.proofs.Settling.{accept, wide_pairs, settled_refused, settled_many, settled}
 use Rattle.settle.proofs.settle.Goals as goal
 
 pub returns-in_err-refusal : goal.returns-in_err-refusal
 returns-in_err-refusal c =
-    let p = err_from_is_err_and c.from_residual.result c.from_residual.ensures.1 in
-    rw (p.1, p.2) (settled_refused _ c.in_err-refusal.ensures (number_some _))
+    rw (refused_as _ _ c.from_residual.ensures.1) (settled_refused _ c.in_err-refusal.ensures (number_some _))
 
 pub choose-requires-clause-wide : goal.choose-requires-clause-wide
 choose-requires-clause-wide c = wide_pairs _ c.in_ok-refusal.ensures refl c.as_chunks.ensures.front

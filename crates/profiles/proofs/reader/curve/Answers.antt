@@ -1,8 +1,7 @@
 -- `curve` meets its contract: the buckets are decoded, tested for normal form, and handed over.
 -- Assumes nothing.
 use Rattle.std.proofs.Common.{refl, ◌∙◌}
-use Rattle.std.proofs.lemmas.Result.{err_from_is_err_and}
-use Rattle.checks.proofs.Numbers.{number_some}
+use Rattle.checks.proofs.Numbers.{number_some, refused_as}
 use Rattle.profiles.proofs.Readings.{curve_holds, curve_file_refused, curve_file_short, curve_file_read}
 use Rattle.profiles.proofs.reader.curve.Goals as goal
 
@@ -11,14 +10,12 @@ decode-requires-clause-holds c = curve_holds c.requires c.count_in.ensures
 
 pub returns-in_err-curve : goal.returns-in_err-curve
 returns-in_err-curve c =
-    let p = err_from_is_err_and c.from_residual.result c.from_residual.ensures.1 in
-    rw (p.1, p.2)
+    rw (refused_as _ _ c.from_residual.ensures.1)
     (curve_file_refused c.requires c.count_in.ensures (c.as_slice.ensures.value ∙ c.decode.ensures) c.in_err-curve.ensures.verdict (number_some _))
 
 pub returns-in_err-count : goal.returns-in_err-count
 returns-in_err-count c =
-    let p = err_from_is_err_and c.from_residual-in_err-count.result c.from_residual-in_err-count.ensures.1 in
-    rw (p.1, p.2)
+    rw (refused_as _ _ c.from_residual-in_err-count.ensures.1)
     (curve_file_short c.requires c.count_in.ensures (c.as_slice-2.ensures.value ∙ c.decode.ensures)
     (rw (c.as_slice.ensures.value, ← c.as_slice-2.ensures.value) at c.in_ok-curve.ensures.verdict) refl c.in_err-count.ensures (number_some _))
 

@@ -1,14 +1,12 @@
 -- A refusal of either server, a latency that is too large, or the joined server. Assumes nothing.
 use Rattle.std.proofs.Common.{refl}
-use Rattle.std.proofs.lemmas.Result.{err_from_is_err_and}
-use Rattle.checks.proofs.Numbers.{number_some}
+use Rattle.checks.proofs.Numbers.{number_some, refused_as}
 use Rattle.servers.proofs.Joins.{late_first, late_second, join_refused, join_large, join_joined}
 use Rattle.servers.proofs.Server.join.Goals as goal
 
 pub returns-in_err-both : goal.returns-in_err-both
 returns-in_err-both c =
-    let p = err_from_is_err_and c.from_residual.result c.from_residual.ensures.1 in
-    rw (p.1, p.2) (join_refused c.refusal.ensures c.refusal-2.ensures c.in_err-both.ensures.code (number_some _) refl refl)
+    rw (refused_as _ _ c.from_residual.ensures.1) (join_refused c.refusal.ensures c.refusal-2.ensures c.in_err-both.ensures.code (number_some _) refl refl)
 
 pub join-kind-requires-clause-first_late : goal.join-kind-requires-clause-first_late
 join-kind-requires-clause-first_late c = late_first c.refusal.ensures c.refusal-2.ensures c.in_ok-both.ensures.code refl
