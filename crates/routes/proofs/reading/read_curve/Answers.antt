@@ -1,6 +1,6 @@
 -- `read_curve` reads the curve that an input begins with, and counts the numbers of its list.
 -- Assumes nothing.
-use Rattle.std.proofs.lemmas.Result.{err_from_is_err_and}
+use Rattle.checks.proofs.Numbers.{refused_as}
 use Rattle.profiles.proofs.Readings.{read_whole}
 use Rattle.routes.proofs.Due.{curve_missing, curve_read, curve_numbers, no_server_read}
 use Rattle.routes.proofs.reading.read_curve.Goals as goal
@@ -10,8 +10,7 @@ returns-then-kind_in-ne-CURVE c = curve_missing c.kind_in.ensures c.requires c.i
 
 pub returns-in_err-count : goal.returns-in_err-count
 returns-in_err-count c =
-    let p = err_from_is_err_and c.from_residual.result c.from_residual.ensures.1 in
-    rw (p.1, p.2)
+    rw (refused_as _ _ c.from_residual.ensures.1)
     (curve_read c.kind_in.ensures c.first_end-end.ensures c.requires c.if-kind_in-ne-CURVE.false
     (read_whole _ (rw (c.whole-whole.ensures.start, c.whole-whole.ensures.end) at c.in_err-count.ensures)))
 

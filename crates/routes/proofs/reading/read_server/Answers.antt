@@ -1,6 +1,6 @@
 -- `read_server` reads the server that an input begins with.
 -- Assumes nothing.
-use Rattle.std.proofs.lemmas.Result.{err_from_is_err_and}
+use Rattle.checks.proofs.Numbers.{refused_as}
 use Rattle.profiles.proofs.Readings.{read_whole}
 use Rattle.routes.proofs.Due.{server_missing, server_read, no_curve_read}
 use Rattle.routes.proofs.reading.read_server.Goals as goal
@@ -10,8 +10,7 @@ returns-then-kind_in-eq-CURVE c = server_missing c.kind_in.ensures c.if-kind_in-
 
 pub returns-in_err-server : goal.returns-in_err-server
 returns-in_err-server c =
-    let p = err_from_is_err_and c.from_residual.result c.from_residual.ensures.1 in
-    rw (p.1, p.2)
+    rw (refused_as _ _ c.from_residual.ensures.1)
     (server_read c.kind_in.ensures c.first_end-end.ensures c.if-kind_in-eq-CURVE.false (read_whole _ c.in_err-server.ensures))
 
 pub unreachable-requires : goal.unreachable-requires

@@ -1,14 +1,12 @@
 -- `hop_at` reads a server and passes the curve through it.
 -- Assumes nothing.
-use Rattle.std.proofs.lemmas.Result.{err_from_is_err_and}
-use Rattle.checks.proofs.Numbers.{number_some}
+use Rattle.checks.proofs.Numbers.{number_some, refused_as}
 use Rattle.routes.proofs.Hops.{hop_unread, hop_passed}
 use Rattle.routes.proofs.walk.hop_at.Goals as goal
 
 pub returns-in_err-server : goal.returns-in_err-server
 returns-in_err-server c =
-    let p = err_from_is_err_and c.from_residual.result c.from_residual.ensures.1 in
-    rw (p.1, p.2) (hop_unread c.args.input.now c.args.at c.in_err-server.ensures (number_some _) c.requires.room)
+    rw (refused_as _ _ c.from_residual.ensures.1) (hop_unread c.args.input.now c.args.at c.in_err-server.ensures (number_some _) c.requires.room)
 
 pub returns : goal.returns
 returns c =
