@@ -1,7 +1,7 @@
--- Backlog and delay from M, the greatest of reads(s) - R·s, and their outcomes.
+-- Backlog and delay from M, the greatest of reads(s) - R·s.
 -- Assumes nothing.
-use mathlib.Core.Path.{◌≡◌, refl, sym, ◌∙◌, ap}
-use mathlib.Core.Bool.{Bool, true, false, true≢false}
+use mathlib.Core.Path.{◌≡◌, sym}
+use mathlib.Core.Bool.{Bool, true, false}
 use mathlib.Core.Logic.{inl, inr}
 use mathlib.Core.List.{List}
 use Prim.Native.Nat.{ℕ, ◌+◌, ◌-◌, ◌*◌, ◌^◌, ◌≤◌, ◌<◌, min}
@@ -12,19 +12,18 @@ use mir.Val.{Fits}
 use lib.ListN.{length}
 use Rattle.meaning.specs.Curve.{Bucket, ◌∈◌, bucket_at, reads}
 use Rattle.meaning.specs.Server.{Excess, Backlog, Delay, Smallest, last, port}
-use Rattle.meaning.proofs.Lists.{at_inside, inside_at, falling_at}
+use Rattle.meaning.proofs.Lists.{at_inside, inside_at}
 use Rattle.meaning.proofs.Order.{le_or_lt}
-use Rattle.meaning.proofs.Curve.Value.{same_bucket_at, same_rate, value_least, value_reached}
+use Rattle.meaning.proofs.Curve.Value.{same_bucket_at, same_rate}
 use Rattle.meaning.proofs.Server.Cut.{cut_at, by_line, by_slow, cut_line, cut_slow, cut_reached}
 use Rattle.meaning.proofs.Server.Behind.{cut_gap}
-use Rattle.meaning.proofs.Server.Joining.{last_inside, last_slowest}
+use Rattle.meaning.proofs.Server.Joining.{last_inside}
 use Rattle.meaning.proofs.Server.Delay.{rated_delay_of_nothing, delay_from_excess}
 use Rattle.meaning.proofs.Server.Sizes.{excess_bound}
 use Rattle.checks.specs.Cited.{Tells}
-use Rattle.checks.proofs.Buckets.{last_numbered}
 use Rattle.std.specs.Int.{div_ceil}
 use Rattle.std.proofs.lemmas.Grind.{div_ceil_times}
-use Rattle.operations.specs.Cited.{bucket, Tested, TestedPort, LeastOf}
+use Rattle.operations.specs.Cited.{TestedPort, LeastOf}
 use Rattle.operations.specs.Walks.{FirstSlow}
 use Rattle.operations.proofs.Turning.{nowhere, slow_from}
 
@@ -107,58 +106,6 @@ pub quotient_small : (a b : ℕ) {x : ℕ} → x ≡ div_ceil a b → x ≤ a + 
 quotient_small a b is = omega (arith, is, div-le_self a b)
 
 -- ---- Delay.
-
-module _ (f : List Bucket) (w : Tested f) {last_rate last_burst : ℕ} (is : bucket last_rate last_burst ≡ last f) where
-  -- a curve that carries nothing by tick 1 has the last bucket (0, 0)
-  nothing_last : reads f 1 ≡ 0 → (last_rate ≡ 0) × (last_burst ≡ 0)
-  unfolding reads bucket_at
-  nothing_last none =
-      let r = value_reached f 1 1 w.form.some in
-      let at = inside_at f nowhere r.inside in
-      let flat : last_rate ≤ 0 = omega (arith, r.value_is, last_slowest f w.form.falling r.inside, same_rate is) in
-      let end : at.0 + 1 ≡ length f =
-      elim (le_or_lt (length f) (at.0 + 1)) [
-        | inl e ↦ omega (arith, at.1)
-        | inr more ↦
-            absurd
-            (omega (
-              arith,
-              r.value_is,
-              same_rate at.2,
-              falling_at f w.form.falling nowhere at.0 (length f - 1) (omega arith) (omega arith),
-            ))
-      ]
-      in
-      let e : bucket last_rate last_burst ≡ r.bucket = is ∙ sym (last_numbered f at.0 end) ∙ sym at.2 in
-      (omega arith, omega (arith, r.value_is, ap (λ (j : Bucket). j.burst) e))
-
-  -- its last rate is not 0
-  pub carries_rate : 0 < last_rate → Tells (reads f 1 ≡ 0) false
-  carries_rate some =
-      record { yes_means = λ t. absurd (true≢false (sym t)); no_means = λ t none. omega (arith, nothing_last none) }
-
-  -- or its last burst is not
-  pub carries_burst : 0 < last_burst → Tells (reads f 1 ≡ 0) false
-  carries_burst some =
-      record { yes_means = λ t. absurd (true≢false (sym t)); no_means = λ t none. omega (arith, nothing_last none) }
-
-  -- or both are
-  pub carries_none : last_rate ≤ 0 → last_burst ≤ 0 → Tells (reads f 1 ≡ 0) true
-  unfolding reads bucket_at
-  carries_none no_rate no_burst =
-      record {
-        yes_means =
-            λ t.
-            omega (
-              arith,
-              value_least f 1 1 (last_inside f w.form.some),
-              same_rate is,
-              ap (λ (j : Bucket). j.burst) is,
-            );
-        no_means = λ t. absurd (true≢false t);
-      }
-
-pub ruleset carrying = (carries_rate, carries_burst, carries_none)
 
 module _ {f : List Bucket} {rate latency m : ℕ} (w : TestedPort f rate latency) (e : Excess f rate m) where
   module _ {answer : Bool} (t : Tells (reads f 1 ≡ 0) answer) where
