@@ -1,32 +1,31 @@
 -- From what `settle` leaves to what each operation answers: an operand is refused, or the operation's question is the one that
 -- `settle` answers, over its raw buckets.
 -- Assumes nothing.
-use mathlib.Core.Path.{◌≡◌, refl, sym, ◌∙◌, ap, subst}
+use mathlib.Core.Path.{◌≡◌, refl, sym, subst}
 use mathlib.Core.Logic.{inl, inr, ⊎_elim}
 use mathlib.Core.List.{List, [], ◌∷◌, ◌++◌}
 use Prim.Native.Nat.{ℕ, ◌^◌, ◌≤◌, ◌<◌}
 use native.Mathlib.Omega.{arith}
 use native.Mathlib.Nat.{lt_of_not-le}
-use lib.ListN.{length, take, drop, length-append}
-use lib.Seq.{take_at, length-take-le}
+use lib.ListN.{length, take}
 use lib.Dec.{lit≤}
-use Rattle.meaning.specs.Curve.{Bucket, buckets, flat, curve_of, link_bucket, NormalOf}
-use Rattle.meaning.specs.Refusal.{RANGE, number, Lines, ◌or◌, Clear, Verdict, AllInRange, raw_lines, curve_lines, Question, over, PartOutcome}
+use Rattle.meaning.specs.Curve.{Bucket, buckets, flat, curve_of, list_of, link_bucket, NormalOf}
+use Rattle.meaning.specs.Refusal.{RANGE, number, Lines, ◌or◌, Clear, Verdict, AllInRange, raw_lines, curve_lines, Question, PartOutcome}
 use Rattle.meaning.specs.CurveQuestions.{link_line, normalising, lowering, summing, shaping}
-use Rattle.meaning.specs.Computed.{earlier, merged_sum}
+use Rattle.meaning.specs.Computed.{earlier, merged_sum, is_normal, crossings_rise}
+use Rattle.meaning.proofs.Curve.Neighbours.{neighbours_sound}
 use Rattle.meaning.proofs.Curve.Unique.{normal_of_unique}
 use Rattle.meaning.proofs.Curve.Curves.{same_buckets_normal}
 use Rattle.meaning.proofs.Curve.Merging.{merged_sum_lem}
-use Rattle.meaning.proofs.Outcome.Answers.{raw_some, list_up_to, curve_up_to}
-use Rattle.meaning.proofs.Outcome.Outcomes.{up_to_when, up_to_or, clear_or, verdict_or, refuse_in_part, asked_so_in_part, whole_list}
+use Rattle.meaning.proofs.Outcome.Answers.{raw_some, clear_form, sound_clear, list_up_to, curve_up_to}
+use Rattle.meaning.proofs.Outcome.Outcomes.{up_to_when, up_to_or, clear_or, verdict_or, refuse_in_part, asked_so_in_part}
 use Rattle.settle.specs.Cited.{AllWide, settling, delivering}
 use Rattle.settle.proofs.Delivering.{answered_by}
 use Rattle.meaning.proofs.Lists.{append_each, buckets_flat, all_in_range, flat_length}
 use Rattle.checks.proofs.Buckets.{flat_buckets}
-use Rattle.operations.specs.Cited.{Tested, merged}
-use Rattle.operations.proofs.Valuing.{tested}
+use Rattle.operations.specs.Cited.{merged}
 use Rattle.operations.proofs.Merging.{merged_from, merged_to, merged_length}
-use Rattle.checks.proofs.Checks.{passed, clear_first, clear_second, list_ranges, list_even, curve_ranged, curve_some, curve_few}
+use Rattle.checks.proofs.Checks.{passed, clear_first, clear_second, list_ranges, list_even, curve_ranged, curve_some}
 
 -- buckets in their range are not too wide
 wide : {f : List Bucket} → AllInRange f → AllWide f
@@ -171,15 +170,17 @@ module _ (f : List ℕ) (rate frame : ℕ) {checked : ℕ} (v : Verdict (curve_l
   frame_fits : frame < 2 ^ 40
   frame_fits = lt_of_not-le (λ over. clear_second shaped_clear RANGE (refl, inr (inr over)))
 
-  rate_some : 1 ≤ rate
-  rate_some = not_above (λ none. clear_second shaped_clear RANGE (refl, inl (omega arith)))
+  link_ranged : AllInRange (link_bucket rate frame ∷ [])
+  link_ranged = all_in_range (link_bucket rate frame ∷ []) (record { rate_fits = rate_fits; burst_fits = frame_fits }, tt)
 
   -- the link's list is one bucket, and a curve of its own
   pub link_curve : Clear (curve_lines (rate ∷ frame ∷ []))
-  link_curve = sound_clear (link_bucket rate frame ∷ []) ?
+  unfolding list_of flat is_normal crossings_rise
+  link_curve =
+      sound_clear (link_bucket rate frame ∷ []) (neighbours_sound (link_bucket rate frame ∷ []) refl) link_ranged (lit≤ tt)
 
   link_wide : AllWide (link_bucket rate frame ∷ [])
-  link_wide = wide (all_in_range (link_bucket rate frame ∷ []) (record { rate_fits = rate_fits; burst_fits = frame_fits }, tt))
+  link_wide = wide link_ranged
 
   pub shape_settled :
       {at room : ℕ} {before after : List ℕ} {code count : ℕ}

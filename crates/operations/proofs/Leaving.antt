@@ -124,12 +124,11 @@ some_code x =
 pub delay_shared :
     (f : List ℕ) (latency : ℕ) {x code : ℕ} → Verdict (curve_lines f) x → code ≡ earlier x (number RANGE)
     → ResidualOutcome f (pure_delay latency) code no_server
-unfolding ResidualOutcome
+unfolding ResidualOutcome number
 delay_shared f latency {x} v e =
     rw e (server_refused upto (some_code x) (shared (verdict_or v (line_hit RANGE tt))))
   where
     upto : UpTo 8 (cross_lines f (pure_delay latency))
-    unfolding number
     upto = up_to_or (up_to_or (curve_up_to f) (server_up_to (pure_delay latency))) (up_to_when RANGE (lit≤ tt))
 
     -- the server's own line is RANGE as well

@@ -1,0 +1,9 @@
+-- A pure delay has no rate to share: RANGE, or what is smaller of the curve. Assumes nothing.
+use Rattle.std.proofs.lemmas.Result.{err_from_is_err_and}
+use Rattle.operations.proofs.Leaving.{delay_shared}
+use Rattle.operations.proofs.delayed.residual.Goals as goal
+
+pub returns-in_err-both : goal.returns-in_err-both
+returns-in_err-both c =
+    let p = err_from_is_err_and c.from_residual.result c.from_residual.ensures.1 in
+    rw (p.1, p.2) (delay_shared _ _ c.curve.ensures.verdict c.in_err-both.ensures.code)

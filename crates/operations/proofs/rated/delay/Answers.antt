@@ -1,0 +1,16 @@
+-- An operand is refused, or the delay is answered. Assumes nothing.
+use Rattle.std.proofs.Common.{refl}
+use Rattle.std.proofs.lemmas.Result.{err_from_is_err_and}
+use Rattle.checks.proofs.Numbers.{number_some}
+use Rattle.operations.proofs.Sharing.{delay_refused, delay_answered}
+use Rattle.operations.proofs.rated.delay.Goals as goal
+
+pub returns-in_err-port : goal.returns-in_err-port
+returns-in_err-port c =
+    let p = err_from_is_err_and c.from_residual.result c.from_residual.ensures.1 in
+    rw (p.1, p.2) (delay_refused _ _ c.in_err-port.ensures.verdict (number_some _))
+
+pub returns : goal.returns
+returns c =
+    delay_answered _ _ c.in_ok-port.ensures.verdict refl
+    (rw (c.in_ok-port.ensures.its_curve, c.in_ok-port.ensures.its_server) at c.delay.ensures)
