@@ -6,6 +6,7 @@ pub mod Refusing
 pub mod Bounding
 pub mod Sharing
 pub mod Leaving
+pub mod Pushing
 pub mod Lining
 pub mod Passing
 pub mod Delaying
