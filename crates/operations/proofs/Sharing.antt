@@ -3,7 +3,7 @@
 -- Assumes nothing.
 use mathlib.Core.Path.{◌≡◌, refl}
 use mathlib.Core.List.{List, []}
-use Prim.Native.Nat.ℕ
+use Prim.Native.Nat.{ℕ}
 use native.Mathlib.Omega.{arith}
 use Rattle.meaning.specs.Curve.{curve_of}
 use Rattle.meaning.specs.Server.{Server, Backlog, Delay, no_server}
