@@ -32,7 +32,7 @@ use Rattle.operations.proofs.Asking.{settled}
 -- ---- The buckets, each read a latency later.
 
 -- with the first in the line's place they are all there
-lined_later :
+pub lined_later :
     (f : List Bucket) {rate burst : ℕ} (latency : ℕ) → 1 ≤ length f → bucket rate burst ≡ nth f 0
     → line_and_later f 1 rate (burst + rate * latency) latency ≡ map (later latency) f
 unfolding line_and_later later
