@@ -1,4 +1,4 @@
--- Two curves added by merging, step by step: how the walk goes on from two buckets at hand, and what is written of the sum so far.
+-- Two curves added by merging, step by step: how the walk goes on from two buckets at hand, and what is pushed of the sum so far.
 -- Assumes nothing.
 use mathlib.Core.Path.{◌≡◌, refl, sym, ◌∙◌, ap, ap₂}
 use mathlib.Core.Logic.{inl, inr}
@@ -20,7 +20,7 @@ use Rattle.meaning.proofs.Curve.Value.{same_rate}
 use Rattle.meaning.proofs.Order.{le_or_lt, lt_or_eq_or_gt}
 use Rattle.checks.specs.Cited.{nth}
 use Rattle.checks.proofs.Buckets.{left_from}
-use Rattle.operations.specs.Cited.{bucket, Tested, CrossingAt, TurnAfter, AtHand, StepOf}
+use Rattle.operations.specs.Cited.{Tested, CrossingAt, TurnAfter, AtHand, StepOf}
 use Rattle.operations.specs.declared.adding.Step.{Step}
 use Rattle.operations.specs.declared.crossings.Crossing.{Crossing}
 use Rattle.operations.proofs.Pushing.{Pushed, pushed_start, pushed_count, pushed_next, pushed_end}
