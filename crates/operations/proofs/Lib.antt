@@ -10,7 +10,6 @@ pub mod Pushing
 pub mod Lining
 pub mod Passing
 pub mod Delaying
-pub mod Choosing
 pub mod Merging
 pub mod Summing
 pub mod Asking

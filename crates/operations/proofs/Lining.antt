@@ -16,7 +16,7 @@ use Rattle.meaning.specs.Refusal.{InRange}
 use Rattle.meaning.proofs.Lists.{at_inside}
 use Rattle.checks.specs.Cited.{nth}
 use Rattle.checks.proofs.Buckets.{left_from}
-use Rattle.operations.specs.Cited.{bucket, Tested, line_and_later}
+use Rattle.operations.specs.Cited.{Tested, line_and_later}
 use Rattle.operations.proofs.Pushing.{Pushed, pushed_start, pushed_count, pushed_next, pushed_end}
 
 -- ---- The buckets by their numbers.

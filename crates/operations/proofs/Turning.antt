@@ -5,7 +5,7 @@ use mathlib.Core.Path.{◌≡◌, refl, sym, ◌∙◌, ap}
 use mathlib.Core.Logic.{inl, inr}
 use mathlib.Core.List.Memᴰ
 use mathlib.Core.List.{List, [], ◌∷◌, ◌++◌}
-use Prim.Native.Nat.{ℕ, zero, suc, ◌+◌, ◌-◌, ◌*◌, ◌/◌, ◌^◌, ◌≤◌, ◌<◌, max}
+use Prim.Native.Nat.{ℕ, ◌+◌, ◌-◌, ◌*◌, ◌/◌, ◌^◌, ◌≤◌, ◌<◌, max}
 use native.Mathlib.Nat.{le_of_lt, le_trans, le_of_eq, mul-le-mul, div-le_self}
 use native.Mathlib.Omega.{arith}
 use mir.Syntax.{w64}
@@ -13,11 +13,11 @@ use mir.Val.{Fits}
 use lib.ListN.{length, take, drop, take-append-drop, length-take}
 use lib.Seq.{get_or-take}
 use Rattle.meaning.specs.Curve.{Bucket, ◌∈◌, bucket_at, NormalForm, reads}
-use Rattle.meaning.specs.Server.{Excess, last}
+use Rattle.meaning.specs.Server.{Excess}
 use Rattle.meaning.specs.Computed.{excess_at}
 use Rattle.meaning.proofs.Lists.{append_each, at_inside, inside_at, falling_at}
 use Rattle.meaning.proofs.Order.{le_or_lt}
-use Rattle.meaning.proofs.Curve.Value.{same_rate, same_bucket_at, value_unique}
+use Rattle.meaning.proofs.Curve.Value.{same_bucket_at, value_unique}
 use Rattle.meaning.proofs.Curve.Reads.{burst_below}
 use Rattle.meaning.proofs.Server.Excess.{Turn, before_lowest, first_lowest, turn_excess, starting_excess}
 use Rattle.checks.specs.Cited.{nth}
@@ -33,7 +33,7 @@ nowhere = record { rate = 0; burst = 0 }
 -- ---- Where two neighbours cross.
 
 module _ {f : List Bucket} {k : ℕ} (w : Tested f) (h : (0 < k) × (k < length f)) where
-  pub crossing_before : (nth f k).rate < (nth f (k - 1)).rate
+  crossing_before : (nth f k).rate < (nth f (k - 1)).rate
   crossing_before = falling_at f w.form.falling _ (k - 1) k (omega arith) h.1
 
   crossing_rises : (nth f (k - 1)).burst < (nth f k).burst
@@ -87,12 +87,6 @@ module _ {f : List Bucket} {rate first : ℕ} (w : Tested f) (s : FirstSlow f ra
       ]
 
   module _ (some : first ≡ 0 → ⊥) where
-    pub turn_some : 0 < first
-    turn_some = omega (arith, some)
-
-    pub turn_inside : first ≤ length f
-    turn_inside = omega (arith, s.inside)
-
     -- the first bucket of rate at most R and the one before it
     unfoldable turn : Turn f rate
     turn =

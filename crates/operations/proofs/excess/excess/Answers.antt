@@ -1,7 +1,6 @@
 -- M is reached at tick 0, or at the whole tick up to the crossing or the next.
 -- Assumes nothing.
-use Rattle.std.proofs.Common.{refl}
-use Rattle.operations.proofs.Turning.{crossing_some, tick_is, excess_start, turn_some, turn_small, turn_tick, turn_next_fits, turn_product_fits, turn_after_fits, excess_turn}
+use Rattle.operations.proofs.Turning.{tick_is, excess_start, turn_small, turn_tick, turn_next_fits, turn_product_fits, turn_after_fits, excess_turn}
 use Rattle.operations.proofs.Valuing.{tested}
 use Rattle.operations.proofs.excess.excess.Goals as goal
 
