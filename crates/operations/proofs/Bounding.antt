@@ -4,7 +4,7 @@ use mathlib.Core.Path.{◌≡◌, sym}
 use mathlib.Core.Bool.{Bool, true, false}
 use mathlib.Core.Logic.{inl, inr}
 use mathlib.Core.List.{List}
-use Prim.Native.Nat.{ℕ, ◌+◌, ◌-◌, ◌*◌, ◌^◌, ◌≤◌, ◌<◌, min}
+use Prim.Native.Nat.{ℕ, ◌+◌, ◌*◌, ◌^◌, ◌≤◌, ◌<◌, min}
 use native.Mathlib.Nat.{le_of_lt, le_trans, le_of_eq, le_antisymm, zero-add, mul_comm, mul-le-mul, mul-le-mul_left, div-le_self}
 use native.Mathlib.Omega.{arith}
 use mir.Syntax.{w64}

@@ -2,7 +2,7 @@
 -- Assumes nothing.
 use mathlib.Core.Path.{◌≡◌, refl, sym, ◌∙◌, ap, subst}
 use mathlib.Core.List.{List, [], ◌∷◌}
-use Prim.Native.Nat.{ℕ, ◌^◌, ◌≤◌, ◌<◌}
+use Prim.Native.Nat.{ℕ, ◌^◌, ◌≤◌}
 use native.Mathlib.Nat.{lt_of_not-le, le_of_lt}
 use native.Mathlib.Omega.{arith}
 use lib.ListN.{length}
@@ -14,7 +14,7 @@ use Rattle.meaning.proofs.Curve.Reads.{reads_later, first_burst}
 use Rattle.meaning.proofs.Outcome.Outcomes.{verdict_or, refusal}
 use Rattle.meaning.proofs.Outcome.Answers.{clear_form}
 use Rattle.checks.specs.Cited.{nth}
-use Rattle.checks.proofs.Checks.{passed, clear_first, clear_second, curve_ranged, curve_few}
+use Rattle.checks.proofs.Checks.{passed, clear_second, curve_ranged, curve_few}
 use Rattle.operations.specs.Cited.{bucket, Tested, LeastOf}
 use Rattle.operations.proofs.Walking.{least_of_all}
 

@@ -1,5 +1,4 @@
 -- An operand is refused, or the answer is; or the curve behind is handed over, with the figures. Assumes nothing.
-use Rattle.std.proofs.Common.{refl}
 use Rattle.std.proofs.lemmas.Result.{err_from_is_err_and}
 use Rattle.checks.proofs.Numbers.{number_some}
 use Rattle.operations.proofs.Sharing.{hop_operand, hop_large, hop_handed}

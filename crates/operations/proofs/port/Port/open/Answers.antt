@@ -1,5 +1,5 @@
 -- An operand is refused, or the first bucket of rate at most R is found. Assumes nothing.
-use Rattle.std.proofs.Common.{refl, sym}
+use Rattle.std.proofs.Common.{refl}
 use Rattle.checks.proofs.Numbers.{verdict_on}
 use Rattle.checks.proofs.Checks.{passed}
 use Rattle.operations.proofs.Refusing.{tested_port}
