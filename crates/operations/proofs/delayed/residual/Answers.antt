@@ -1,4 +1,5 @@
 -- A pure delay has no rate to share: RANGE, or what is smaller of the curve. Assumes nothing.
+use Rattle.checks.proofs.Numbers.{refused_as}
 use Rattle.operations.proofs.Leaving.{delay_shared}
 use Rattle.operations.proofs.delayed.residual.Goals as goal
 

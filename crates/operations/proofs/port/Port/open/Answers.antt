@@ -1,12 +1,12 @@
 -- An operand is refused, or the first bucket of rate at most R is found. Assumes nothing.
 use Rattle.std.proofs.Common.{refl}
-use Rattle.checks.proofs.Numbers.{verdict_on}
+use Rattle.checks.proofs.Numbers.{refused_as}
 use Rattle.checks.proofs.Checks.{passed}
 use Rattle.operations.proofs.Refusing.{tested_port}
 use Rattle.operations.proofs.port.Port.open.Goals as goal
 
 pub returns-in_err-curve-clause-verdict : goal.returns-in_err-curve-clause-verdict
-returns-in_err-curve-clause-verdict c = verdict_on _ _ c.from_residual.ensures.1 c.in_err-curve.ensures.verdict
+returns-in_err-curve-clause-verdict c = rw (refused_as _ _ c.from_residual.ensures.1) c.in_err-curve.ensures.verdict
 
 pub first_slow-requires : goal.first_slow-requires
 first_slow-requires c =
