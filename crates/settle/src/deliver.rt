@@ -7,6 +7,7 @@ use crate::Answer;
 use checks::limits;
 
 // Copies an answer to the start of a list.
+#[tactic(auto, unfolding(meaning::specs::Refusal::over))]
 fn write(answer: &[u64], out: &mut [u64])
     requires { length answer.now ≤ length out.old }
     ensures { out.new ≡ over answer.now out.old }
@@ -16,6 +17,7 @@ fn write(answer: &[u64], out: &mut [u64])
 }
 
 // Puts an answer into the part of the table that is the `room` numbers from `at`, if it has room for it.
+#[tactic(auto, using(crate::proofs::Placing::placing))]
 fn place(answer: &[u64], table: &mut [u64], at: usize, room: usize) -> bool
     requires { 1 ≤ length answer.now }
     ensures { Placed answer.now at room table.old table.new result }
