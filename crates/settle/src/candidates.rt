@@ -20,10 +20,7 @@ pub(crate) fn bucket(pair: &[u64; 2]) -> Bucket
 fn ahead(c: Bucket, k: Bucket) -> bool
     ensures { result ≡ is_ahead (bucket_of c) (bucket_of k) }
 {
-    if k.rate == c.rate {
-        return c.burst <= k.burst;
-    }
-    k.rate < c.rate
+    k.rate < c.rate || (k.rate == c.rate && c.burst <= k.burst)
 }
 
 // Whether the buckets stand in that order.
