@@ -1,32 +1,31 @@
 -- From what `settle` leaves to what each operation answers: an operand is refused, or the operation's question is the one that
 -- `settle` answers, over its raw buckets.
 -- Assumes nothing.
-use mathlib.Core.Path.{◌≡◌, refl, sym, ◌∙◌, ap, subst}
+use mathlib.Core.Path.{◌≡◌, refl, sym, subst}
 use mathlib.Core.Logic.{inl, inr, ⊎_elim}
 use mathlib.Core.List.{List, [], ◌∷◌, ◌++◌}
 use Prim.Native.Nat.{ℕ, ◌^◌, ◌≤◌, ◌<◌}
 use native.Mathlib.Omega.{arith}
 use native.Mathlib.Nat.{lt_of_not-le}
-use lib.ListN.{length, take, drop, length-append}
-use lib.Seq.{take_at, length-take-le}
+use lib.ListN.{length, take}
 use lib.Dec.{lit≤}
-use Rattle.meaning.specs.Curve.{Bucket, buckets, flat, curve_of, link_bucket, NormalOf}
-use Rattle.meaning.specs.Refusal.{RANGE, number, Lines, ◌or◌, Clear, Verdict, AllInRange, raw_lines, curve_lines, Question, over, PartOutcome}
+use Rattle.meaning.specs.Curve.{Bucket, buckets, flat, curve_of, list_of, link_bucket, NormalOf}
+use Rattle.meaning.specs.Refusal.{RANGE, number, Lines, ◌or◌, Clear, Verdict, AllInRange, raw_lines, curve_lines, Question, PartOutcome}
 use Rattle.meaning.specs.CurveQuestions.{link_line, normalising, lowering, summing, shaping}
-use Rattle.meaning.specs.Computed.{earlier, merged_sum}
+use Rattle.meaning.specs.Computed.{earlier, merged_sum, is_normal, crossings_rise}
+use Rattle.meaning.proofs.Curve.Neighbours.{neighbours_sound}
 use Rattle.meaning.proofs.Curve.Unique.{normal_of_unique}
 use Rattle.meaning.proofs.Curve.Curves.{same_buckets_normal}
 use Rattle.meaning.proofs.Curve.Merging.{merged_sum_lem}
-use Rattle.meaning.proofs.Outcome.Answers.{raw_some, list_up_to, curve_up_to}
-use Rattle.meaning.proofs.Outcome.Outcomes.{up_to_when, up_to_or, clear_or, verdict_or, refuse_in_part, asked_so_in_part, whole_list}
+use Rattle.meaning.proofs.Outcome.Answers.{raw_some, clear_form, sound_clear, list_up_to, curve_up_to}
+use Rattle.meaning.proofs.Outcome.Outcomes.{up_to_when, up_to_or, clear_or, verdict_or, refuse_in_part, asked_so_in_part}
 use Rattle.settle.specs.Cited.{AllWide, settling, delivering}
 use Rattle.settle.proofs.Delivering.{answered_by}
 use Rattle.meaning.proofs.Lists.{append_each, buckets_flat, all_in_range, flat_length}
 use Rattle.checks.proofs.Buckets.{flat_buckets}
-use Rattle.operations.specs.Cited.{Tested, merged}
-use Rattle.operations.proofs.Valuing.{tested}
+use Rattle.operations.specs.Cited.{merged}
 use Rattle.operations.proofs.Merging.{merged_from, merged_to, merged_length}
-use Rattle.checks.proofs.Checks.{passed, clear_first, clear_second, list_ranges, list_even, curve_ranged, curve_some, curve_few}
+use Rattle.checks.proofs.Checks.{passed, clear_first, clear_second, list_ranges, list_even, curve_ranged, curve_some}
 
 -- buckets in their range are not too wide
 wide : {f : List Bucket} → AllInRange f → AllWide f
@@ -121,30 +120,6 @@ normalise_settled raw {at} {room} {before} {after} {code = code} {count = count}
     (subst (λ (l : List ℕ). PartOutcome (settling l) at room before after code count)
     (sym (flat_buckets raw (list_even 2 raw (buckets raw) clear))) o)
 
--- ---- Buckets gathered in local memory.
-
--- What was written over the start of a list is a part of it, of its length, and is settled or handed over as itself.
-module _ (l clean : List ℕ) {raw : List ℕ} {end : ℕ} (e : end ≡ length l) (written : raw ≡ over l clean) where
-  pub part_within : end ≤ length raw
-  unfolding over
-  part_within = omega (arith, ap length written, length-append l (drop (length l) clean))
-
-  pub part_count : end ≡ length (take end raw)
-  part_count = sym (length-take-le end raw part_within)
-
-  part_is : take end raw ≡ l
-  unfolding over
-  part_is = ap (take end) written ∙ take_at l (drop (length l) clean) end (sym e)
-
-  module _ {at room : ℕ} {before after : List ℕ} {code count : ℕ} where
-    pub part_settled :
-        PartOutcome (settling (take end raw)) at room before after code count → PartOutcome (settling l) at room before after code count
-    part_settled o = rw part_is at o
-
-    pub part_delivered :
-        PartOutcome (delivering (take end raw)) at room before after code count → PartOutcome (delivering l) at room before after code count
-    part_delivered o = rw part_is at o
-
 -- the smaller of two codes is the verdict on both operands
 pub both_verdict : {a b : Lines} {x y code : ℕ} → Verdict a x → Verdict b y → code ≡ earlier x y → Verdict (a or b) code
 both_verdict {a} {b} v w e = subst (Verdict (a or b)) (sym e) (verdict_or v w)
@@ -161,9 +136,6 @@ module _ (f g : List ℕ) {checked : ℕ} (v : Verdict (curve_lines f or curve_l
   second_clear : Clear (curve_lines g)
   second_clear = clear_second both_clear
 
-  pub lower_ready : (length (curve_of f) ≤ 64) × (length (curve_of g) ≤ 64)
-  lower_ready = (curve_few f first_clear, curve_few g second_clear)
-
   pub lower_settled :
       {at room : ℕ} {before after : List ℕ} {code count : ℕ}
       → PartOutcome (settling (flat (merged (curve_of f) (curve_of g)))) at room before after code count
@@ -173,10 +145,6 @@ module _ (f g : List ℕ) {checked : ℕ} (v : Verdict (curve_lines f or curve_l
       merged_settled (lowering f g) (curve_of f) (curve_of g) (λ h n. n) (λ h n. n) both_clear (curve_some f first_clear)
       (wide (curve_ranged f first_clear)) (wide (curve_ranged g second_clear))
 
-  -- the two are walked
-  pub sum_ready : Tested (curve_of f) × Tested (curve_of g)
-  sum_ready = (tested f first_clear, tested g second_clear)
-
   -- what they come to when merged is their sum, and no other list is
   pub sum_delivered :
       {at room : ℕ} {before after : List ℕ} {code count : ℕ}
@@ -184,7 +152,7 @@ module _ (f g : List ℕ) {checked : ℕ} (v : Verdict (curve_lines f or curve_l
       → PartOutcome (summing f g) at room before after code count
   unfolding summing
   sum_delivered =
-      let sum = merged_sum_lem (curve_of f) (curve_of g) sum_ready.0.form sum_ready.1.form in
+      let sum = merged_sum_lem (curve_of f) (curve_of g) (clear_form f first_clear) (clear_form g second_clear) in
       answered_by (summing f g) (merged_sum (curve_of f) (curve_of g)) both_clear sum (λ h n. normal_of_unique n sum) sum.form.some
 
 -- ---- shape: a curve and a link of which neither is refused.
@@ -202,13 +170,17 @@ module _ (f : List ℕ) (rate frame : ℕ) {checked : ℕ} (v : Verdict (curve_l
   frame_fits : frame < 2 ^ 40
   frame_fits = lt_of_not-le (λ over. clear_second shaped_clear RANGE (refl, inr (inr over)))
 
-  -- the link's list is one bucket
-  pub shape_ready : (length (curve_of f) ≤ 64) × (length (curve_of (rate ∷ frame ∷ [])) ≤ 64)
-  unfolding curve_of buckets
-  shape_ready = (curve_few f shaped_curve, lit≤ tt)
+  link_ranged : AllInRange (link_bucket rate frame ∷ [])
+  link_ranged = all_in_range (link_bucket rate frame ∷ []) (record { rate_fits = rate_fits; burst_fits = frame_fits }, tt)
+
+  -- the link's list is one bucket, and a curve of its own
+  pub link_curve : Clear (curve_lines (rate ∷ frame ∷ []))
+  unfolding list_of flat is_normal crossings_rise
+  link_curve =
+      sound_clear (link_bucket rate frame ∷ []) (neighbours_sound (link_bucket rate frame ∷ []) refl) link_ranged (lit≤ tt)
 
   link_wide : AllWide (link_bucket rate frame ∷ [])
-  link_wide = wide (all_in_range (link_bucket rate frame ∷ []) (record { rate_fits = rate_fits; burst_fits = frame_fits }, tt))
+  link_wide = wide link_ranged
 
   pub shape_settled :
       {at room : ℕ} {before after : List ℕ} {code count : ℕ}
@@ -218,23 +190,3 @@ module _ (f : List ℕ) (rate frame : ℕ) {checked : ℕ} (v : Verdict (curve_l
   shape_settled =
       merged_settled (shaping f rate frame) (curve_of f) (link_bucket rate frame ∷ []) (λ h n. n) (λ h n. n) shaped_clear
       (curve_some f shaped_curve) (wide (curve_ranged f shaped_curve)) link_wide
-
-pub ruleset asking = (
-  both_verdict,
-  normalise_refused,
-  normalise_settled,
-  lower_refused,
-  lower_ready,
-  lower_settled,
-  shape_refused,
-  shape_ready,
-  shape_settled,
-  sum_refused,
-  sum_ready,
-  sum_delivered,
-  part_within,
-  part_count,
-  part_settled,
-  part_delivered,
-  whole_list,
-)

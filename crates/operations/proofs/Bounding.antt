@@ -1,29 +1,31 @@
--- Backlog and delay from M, the greatest of reads(s) - R·s, and their outcomes.
+-- Backlog and delay from M, the greatest of reads(s) - R·s.
 -- Assumes nothing.
-use mathlib.Core.Path.{◌≡◌, refl, sym, ◌∙◌, ap}
-use mathlib.Core.Bool.{Bool, true, false, true≢false}
+use mathlib.Core.Path.{◌≡◌, sym}
+use mathlib.Core.Bool.{Bool, true, false}
 use mathlib.Core.Logic.{inl, inr}
 use mathlib.Core.List.{List}
-use Prim.Native.Nat.{ℕ, ◌+◌, ◌-◌, ◌*◌, ◌/◌, ◌^◌, ◌≤◌, ◌<◌, min}
-use native.Mathlib.Nat.{le_of_lt, le_trans, le_of_eq, le_antisymm, zero-add, mul-le-mul, min-eq_left, min-eq_right, div-le_self}
+use Prim.Native.Nat.{ℕ, ◌+◌, ◌*◌, ◌^◌, ◌≤◌, ◌<◌, min}
+use native.Mathlib.Nat.{le_of_lt, le_trans, le_of_eq, le_antisymm, zero-add, mul_comm, mul-le-mul, mul-le-mul_left, div-le_self}
 use native.Mathlib.Omega.{arith}
 use mir.Syntax.{w64}
 use mir.Val.{Fits}
 use lib.ListN.{length}
 use Rattle.meaning.specs.Curve.{Bucket, ◌∈◌, bucket_at, reads}
-use Rattle.meaning.specs.Server.{Excess, Backlog, Delay, last, port}
-use Rattle.meaning.specs.Computed.{rounded_up}
-use Rattle.meaning.proofs.Lists.{at_inside, inside_at, falling_at}
+use Rattle.meaning.specs.Server.{Excess, Backlog, Delay, Smallest, last, port}
+use Rattle.meaning.proofs.Lists.{at_inside, inside_at}
 use Rattle.meaning.proofs.Order.{le_or_lt}
-use Rattle.meaning.proofs.Curve.Value.{same_bucket_at, same_rate, value_least, value_reached}
+use Rattle.meaning.proofs.Curve.Value.{same_bucket_at, same_rate}
 use Rattle.meaning.proofs.Server.Cut.{cut_at, by_line, by_slow, cut_line, cut_slow, cut_reached}
 use Rattle.meaning.proofs.Server.Behind.{cut_gap}
-use Rattle.meaning.proofs.Server.Joining.{last_inside, last_slowest, rounded_up_is}
+use Rattle.meaning.proofs.Server.Joining.{last_inside}
 use Rattle.meaning.proofs.Server.Delay.{rated_delay_of_nothing, delay_from_excess}
 use Rattle.meaning.proofs.Server.Sizes.{excess_bound}
 use Rattle.checks.specs.Cited.{Tells}
-use Rattle.operations.specs.Cited.{bucket, Tested, TestedPort, LeastOf, FirstSlow}
-use Rattle.operations.proofs.Turning.{nowhere, last_numbered, slow_from}
+use Rattle.std.specs.Int.{div_ceil}
+use Rattle.std.proofs.lemmas.Grind.{div_ceil_times}
+use Rattle.operations.specs.Cited.{TestedPort, LeastOf}
+use Rattle.operations.specs.Walks.{FirstSlow}
+use Rattle.operations.proofs.Turning.{nowhere, slow_from}
 
 -- M is below 2^40: the last bucket's burst is
 pub excess_small : (f : List Bucket) {rate latency m : ℕ} → TestedPort f rate latency → Excess f rate m → m < 2 ^ 40
@@ -61,16 +63,8 @@ module _
               | inr early ↦ absurd (omega (arith, s.steeper at.0 early, same_rate at.2))
             ]
 
-    least_backlog : Backlog f (port rate latency) (min (rate * latency + m) v)
+    pub least_backlog : Backlog f (port rate latency) (min (rate * latency + m) v)
     least_backlog = rw (← cut_is) (simp zero-add at (cut_gap f (record { rate = rate; latency = latency }) m e 0 w.curve.form.some))
-
-    -- the line is the lower
-    pub backlog_line : rate * latency + m ≤ v → Backlog f (port rate latency) (rate * latency + m)
-    backlog_line h = rw (min-eq_left h) at least_backlog
-
-    -- or a bucket is
-    pub backlog_bucket : v < rate * latency + m → Backlog f (port rate latency) v
-    backlog_bucket h = rw (min-eq_right (le_of_lt h)) at least_backlog
 
 module _ {f : List Bucket} {rate latency : ℕ} (w : TestedPort f rate latency) where
   product : rate * latency ≤ 2 ^ 40
@@ -83,115 +77,49 @@ module _ {f : List Bucket} {rate latency : ℕ} (w : TestedPort f rate latency) 
   line_fits e = record { fits = omega (arith, product, excess_small f w e) }
 
   -- what the least value at the latency needs
-  pub port_curve : Tested f
-  port_curve = w.curve
-
   pub port_latency : latency ≤ 2 ^ 40
   port_latency = omega (arith, w.server.latency_fits)
 
--- (the first bucket of rate at most R is one)
-pub first_inside : {f : List Bucket} {rate first : ℕ} → FirstSlow f rate first → first < length f
-first_inside s = s.inside
-
-pub ruleset backlogs = (backlog_line, backlog_bucket, line_product_fits, line_fits, port_curve, port_latency, first_inside)
-
 -- ---- A quotient rounded up.
 
-module _ {a b : ℕ} (small : a < 2 ^ 40) (h : (1 ≤ b) × (b < 2 ^ 20)) where
-  pub round_sum_fits : Fits w64 (a + b)
-  round_sum_fits = record { fits = omega arith }
+-- it is the smallest number whose product suffices
+pub quotient_is : (a b : ℕ) {x : ℕ} → 1 ≤ b → x ≡ div_ceil a b → Smallest (λ y. a ≤ b * y) x
+quotient_is a b {x} some is =
+    rw is
+    (record {
+      suffices = omega (arith, times.0, mul_comm (div_ceil a b) b);
+      smallest = λ m enough.
+          elim (le_or_lt (div_ceil a b) m) [
+            | inl h ↦ h
+            | inr more ↦ absurd (omega (arith, times.1, enough, mul_comm (div_ceil a b) b, mul-le-mul_left b (above m more)))
+          ];
+    })
+  where
+    times : (a ≤ div_ceil a b * b) × (div_ceil a b * b < a + b)
+    times = div_ceil_times a b some
 
-  pub round_less : 1 ≤ a + b
-  round_less = omega arith
+    above : (m : ℕ) → m < div_ceil a b → m + 1 ≤ div_ceil a b
+    above m more = omega arith
 
-  pub round_some : 0 < b
-  round_some = omega arith
-
-pub round_is : (a b : ℕ) → (a + b - 1) / b ≡ rounded_up a b
-unfolding rounded_up
-round_is a b = refl
-
-pub ruleset rounds = (round_sum_fits, round_less, round_some, round_is)
+-- and no more than the dividend and one
+pub quotient_small : (a b : ℕ) {x : ℕ} → x ≡ div_ceil a b → x ≤ a + 1
+quotient_small a b is = omega (arith, is, div-le_self a b)
 
 -- ---- Delay.
 
-module _ (f : List Bucket) (w : Tested f) {last_rate last_burst : ℕ} (is : bucket last_rate last_burst ≡ last f) where
-  -- a curve that carries nothing by tick 1 has the last bucket (0, 0)
-  nothing_last : reads f 1 ≡ 0 → (last_rate ≡ 0) × (last_burst ≡ 0)
-  unfolding reads bucket_at
-  nothing_last none =
-      let r = value_reached f 1 1 w.form.some in
-      let at = inside_at f nowhere r.inside in
-      let flat : last_rate ≤ 0 = omega (arith, r.value_is, last_slowest f w.form.falling r.inside, same_rate is) in
-      let end : at.0 + 1 ≡ length f =
-      elim (le_or_lt (length f) (at.0 + 1)) [
-        | inl e ↦ omega (arith, at.1)
-        | inr more ↦
-            absurd
-            (omega (
-              arith,
-              r.value_is,
-              same_rate at.2,
-              falling_at f w.form.falling nowhere at.0 (length f - 1) (omega arith) (omega arith),
-            ))
-      ]
-      in
-      let e : bucket last_rate last_burst ≡ r.bucket = is ∙ sym (last_numbered f at.0 end) ∙ sym at.2 in
-      (omega arith, omega (arith, r.value_is, ap (λ (j : Bucket). j.burst) e))
-
-  -- its last rate is not 0
-  pub carries_rate : 0 < last_rate → Tells (reads f 1 ≡ 0) false
-  carries_rate some =
-      record { yes_means = λ t. absurd (true≢false (sym t)); no_means = λ t none. omega (arith, nothing_last none) }
-
-  -- or its last burst is not
-  pub carries_burst : 0 < last_burst → Tells (reads f 1 ≡ 0) false
-  carries_burst some =
-      record { yes_means = λ t. absurd (true≢false (sym t)); no_means = λ t none. omega (arith, nothing_last none) }
-
-  -- or both are
-  pub carries_none : last_rate ≤ 0 → last_burst ≤ 0 → Tells (reads f 1 ≡ 0) true
-  unfolding reads bucket_at
-  carries_none no_rate no_burst =
-      record {
-        yes_means =
-            λ t.
-            omega (
-              arith,
-              value_least f 1 1 (last_inside f w.form.some),
-              same_rate is,
-              ap (λ (j : Bucket). j.burst) is,
-            );
-        no_means = λ t. absurd (true≢false t);
-      }
-
-pub ruleset carrying = (carries_rate, carries_burst, carries_none)
-
 module _ {f : List Bucket} {rate latency m : ℕ} (w : TestedPort f rate latency) (e : Excess f rate m) where
-  pub delay_small : m < 2 ^ 40
-  delay_small = excess_small f w e
-
-  pub delay_rate : (1 ≤ rate) × (rate < 2 ^ 20)
-  delay_rate = (w.server.rate_some, w.server.rate_fits)
-
   module _ {answer : Bool} (t : Tells (reads f 1 ≡ 0) answer) where
     -- the curve carries nothing
     pub delay_none : answer ≡ true → Delay f (port rate latency) 0
     delay_none told = Delay.of_rate (rated_delay_of_nothing f (record { rate = rate; latency = latency }) (t.yes_means told))
 
     -- it carries something
-    pub delay_some : {x : ℕ} → answer ≡ false → x ≡ rounded_up m rate → Delay f (port rate latency) (latency + x)
-    delay_some {x} told is =
+    pub delay_some : {x : ℕ} → answer ≡ false → x ≡ div_ceil m rate → Delay f (port rate latency) (latency + x)
+    delay_some told is =
         Delay.of_rate
-        (delay_from_excess f (record { rate = rate; latency = latency }) x e (rw is (rounded_up_is m rate w.server.rate_some))
+        (delay_from_excess f (record { rate = rate; latency = latency }) _ e (quotient_is m rate w.server.rate_some is)
         (t.no_means told))
 
-  pub delay_fits : {x : ℕ} → x ≡ rounded_up m rate → Fits w64 (latency + x)
-  unfolding rounded_up
+  pub delay_fits : {x : ℕ} → x ≡ div_ceil m rate → Fits w64 (latency + x)
   delay_fits is =
-      record {
-        fits =
-            omega (arith, is, div-le_self (m + rate - 1) rate, delay_small, w.server.rate_fits, w.server.latency_fits);
-      }
-
-pub ruleset delays = (port_curve, delay_small, delay_rate, delay_none, delay_some, delay_fits)
+      record { fits = omega (arith, quotient_small m rate is, excess_small f w e, w.server.latency_fits) }

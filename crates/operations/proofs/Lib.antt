@@ -6,10 +6,10 @@ pub mod Refusing
 pub mod Bounding
 pub mod Sharing
 pub mod Leaving
+pub mod Pushing
 pub mod Lining
 pub mod Passing
 pub mod Delaying
-pub mod Choosing
 pub mod Merging
 pub mod Summing
 pub mod Asking

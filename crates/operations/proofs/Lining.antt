@@ -1,23 +1,23 @@
--- The raw buckets of a curve behind a server, written one after the other: the line first, then each bucket of rate at most R, seen a
+-- The raw buckets of a curve behind a server, pushed one after the other: the line first, then each bucket of rate at most R, seen a
 -- latency later.
 -- Assumes nothing.
-use mathlib.Core.Path.{◌≡◌, refl, sym, ◌∙◌, ap}
+use mathlib.Core.Path.{◌≡◌, refl, ◌∙◌, ap}
 use mathlib.Core.List.{List, [], ◌∷◌, ◌++◌, map}
 use Prim.Native.Nat.{ℕ, zero, suc, ◌+◌, ◌-◌, ◌*◌, ◌^◌, ◌≤◌, ◌<◌}
 use native.Mathlib.Nat.{le_of_lt, mul-le-mul}
 use native.Mathlib.Omega.{arith}
 use mir.Syntax.{w64}
 use mir.Val.{Fits}
-use lib.ListN.{length, drop, set, length-map, length-drop, length-set}
-use lib.Seq.{get_or-drop, drop-set-lt}
+use lib.ListN.{length, drop, length-map, length-drop, drop_of_length-le}
+use lib.Seq.{get_or-drop}
 use Rattle.meaning.specs.Curve.{Bucket, flat}
 use Rattle.meaning.specs.Server.{later}
-use Rattle.meaning.specs.Refusal.{InRange, over}
-use Rattle.meaning.proofs.Lists.{at_inside, flat_length}
+use Rattle.meaning.specs.Refusal.{InRange}
+use Rattle.meaning.proofs.Lists.{at_inside}
 use Rattle.checks.specs.Cited.{nth}
-use Rattle.settle.proofs.Copying.{Copied}
-use Rattle.settle.proofs.Filling.{Filling, filling_rate_fits, filling_burst_fits, filling_rate_place, filling_burst_place, filling_step, filling_end, filling_kept}
-use Rattle.operations.specs.Cited.{bucket, Tested, line_and_later}
+use Rattle.checks.proofs.Buckets.{left_from}
+use Rattle.operations.specs.Cited.{Tested, line_and_later}
+use Rattle.operations.proofs.Pushing.{Pushed, pushed_start, pushed_count, pushed_next, pushed_end}
 
 -- ---- The buckets by their numbers.
 
@@ -44,182 +44,59 @@ line_nth f first rate burst latency (suc k) some h =
 
 -- ---- Step by step.
 
--- Of the n raw buckets, those before k stand at the start of a list.
-pub record Lining (f : List Bucket) (first rate burst latency n : ℕ) (before now : List ℕ) (k : ℕ) : Type 0 where
-  pub tested : Tested f
-  pub inside : first ≤ length f
-  pub latency_fits : latency < 2 ^ 20
-  pub some : 1 ≤ k
-  pub filled : Filling (line_and_later f first rate burst latency) n before now k
+-- The line and the buckets before k are pushed.
+pub record Lining (f : List Bucket) (first rate burst latency k : ℕ) (items : List ℕ) : Type 0 where
+  pub inside : (first ≤ k) × (k ≤ length f)
+  pub pushed : Pushed (line_and_later f first rate burst latency) (map (later latency) (drop k f)) items
 
--- two numbers written to the start of a list stand there
-two_written :
-    (a b : ℕ) (entry : List ℕ) → 2 ≤ length entry → set (set entry 0 a) 1 b ≡ (a ∷ b ∷ []) ++ drop 2 (set (set entry 0 a) 1 b)
-two_written a b [] h = absurd (omega arith)
-two_written a b (x ∷ []) h = absurd (omega arith)
-two_written a b (x ∷ y ∷ entry) h = refl
+-- the line is pushed
+pub lining_start :
+    (f : List Bucket) {first rate burst latency : ℕ} {items with_rate with_both : List ℕ} → first ≤ length f → items ≡ []
+    → with_rate ≡ items ++ rate ∷ [] → with_both ≡ with_rate ++ burst ∷ [] → Lining f first rate burst latency first with_both
+unfolding line_and_later
+lining_start f {first} {rate} {burst} {latency} inside none one two =
+    record {
+      inside = (omega arith, inside);
+      pushed = pushed_next (pushed_start (line_and_later f first rate burst latency) none) refl one two;
+    }
 
--- how many there are
-module _ (f : List Bucket) {count first : ℕ} (counted : count ≡ length f) (w : Tested f) (inside : first ≤ length f) where
-  pub line_less : first ≤ count
-  line_less = omega arith
+module _ {f : List Bucket} {first rate burst latency k : ℕ} {items : List ℕ} (w : Lining f first rate burst latency k items) where
+  -- all are pushed
+  pub lining_end : length f ≤ k → items ≡ flat (line_and_later f first rate burst latency)
+  lining_end end = pushed_end w.pushed (ap (map (later latency)) (drop_of_length-le f {i = k} end))
 
-  pub line_count_fits : Fits w64 (count - first + 1)
-  line_count_fits = record { fits = omega (arith, w.few) }
+  module _ (more : k < length f) where
+    -- there is room for one more
+    pub lining_room : length f ≤ 64 → length items + 2 ≤ 130
+    lining_room few =
+        omega (
+          arith,
+          pushed_count w.pushed,
+          line_length f first rate burst latency,
+          length-map (drop k f) (later latency),
+          length-drop k f,
+        )
 
-  -- the line is written
-  pub lining_start :
-      {rate burst latency : ℕ} (entry : List ℕ) → latency < 2 ^ 20 → 130 ≤ length entry
-      → Lining f first rate burst latency (count - first + 1) (set (set entry 0 rate) 1 burst) (set (set entry 0 rate) 1 burst) 1
-  unfolding line_and_later flat
-  lining_start {rate} {burst} {latency} entry small room =
-      record {
-        tested = w;
-        inside = inside;
-        latency_fits = small;
-        some = omega arith;
-        filled =
-            record {
-              counted = omega (arith, long);
-              few = omega (arith, w.few);
-              inside = omega arith;
-              copied = copied;
-            };
-      }
-    where
-      long : length (line_and_later f first rate burst latency) ≡ length f - first + 1
-      long = line_length f first rate burst latency
+    -- it is pushed
+    pub lining_step :
+        {here : Bucket} {with_rate with_both : List ℕ} → here ≡ nth f k → with_rate ≡ items ++ here.rate ∷ []
+        → with_both ≡ with_rate ++ (here.burst + here.rate * latency) ∷ []
+        → Lining f first rate burst latency (k + 1) with_both
+    unfolding later
+    lining_step is one two =
+        record {
+          inside = (omega (arith, w.inside.0), omega arith);
+          pushed = pushed_next w.pushed (ap (map (later latency)) (left_from f k more is)) one two;
+        }
 
-      copied : Copied (flat (line_and_later f first rate burst latency)) (set (set entry 0 rate) 1 burst) (set (set entry 0 rate) 1 burst) 2
-      copied =
-          record {
-            inside = omega (arith, flat_length (line_and_later f first rate burst latency), long);
-            room =
-                omega (
-                  arith,
-                  flat_length (line_and_later f first rate burst latency),
-                  long,
-                  w.few,
-                  length-set (set entry 0 rate) 1 burst,
-                  length-set entry 0 rate,
-                );
-            long = refl;
-            is = two_written rate burst entry (omega arith);
-          }
+-- the numbers of a bucket a latency later fit
+module _ {f : List Bucket} {k latency : ℕ} {here : Bucket} (t : Tested f) (more : k < length f) (small : latency < 2 ^ 20) (is : here ≡ nth f k) where
+  here_ranged : InRange here
+  here_ranged = rw is (t.ranged (nth f k) (at_inside f k _ more))
 
--- the line's two places are in the list
-module _ (before : List ℕ) (room : 130 ≤ length before) where
-  pub line_first_place : 0 < length before
-  line_first_place = omega arith
+  pub lining_product_fits : Fits w64 (here.rate * latency)
+  lining_product_fits = record { fits = omega (arith, mul-le-mul (le_of_lt here_ranged.rate_fits) (le_of_lt small)) }
 
-  pub line_second_place : (x : ℕ) → 1 < length (set before 0 x)
-  line_second_place x = omega (arith, length-set before 0 x)
-
-module _ {f : List Bucket} {first rate burst latency n k : ℕ} {before now : List ℕ} (w : Lining f first rate burst latency n before now k) where
-  -- all are written
-  pub lining_place : n ≤ k → 2 * n ≡ length (flat (line_and_later f first rate burst latency))
-  lining_place h = omega (arith, flat_length (line_and_later f first rate burst latency), w.filled.counted)
-
-  pub lining_count_fits : Fits w64 (2 * n)
-  lining_count_fits = record { fits = omega (arith, w.filled.few) }
-
-  module _ (more : k < n) where
-    all : n ≡ length f - first + 1
-    all = w.filled.counted ∙ line_length f first rate burst latency
-
-    pub lining_sum_fits : Fits w64 (first + k)
-    lining_sum_fits = record { fits = omega (arith, all, w.inside, w.tested.few) }
-
-    pub lining_less : 1 ≤ first + k
-    lining_less = omega (arith, w.some)
-
-    pub lining_next_fits : Fits w64 (k + 1)
-    lining_next_fits = record { fits = omega (arith, w.filled.few) }
-
-    pub lining_at_fits : Fits w64 (2 * k)
-    lining_at_fits = filling_rate_fits w.filled more
-
-    pub lining_burst_fits : Fits w64 (2 * k + 1)
-    lining_burst_fits = filling_burst_fits w.filled more
-
-    pub lining_rate_place : 2 * k < length now
-    lining_rate_place = filling_rate_place w.filled more
-
-    pub lining_burst_place : (x : ℕ) → 2 * k + 1 < length (set now (2 * k) x)
-    lining_burst_place x = filling_burst_place w.filled more x
-
-    module _ {here_rate here_burst : ℕ} (is : bucket here_rate here_burst ≡ nth f (first + k - 1)) where
-      inside_here : first + k - 1 < length f
-      inside_here = omega (arith, all, w.some)
-
-      here_ranged : InRange (bucket here_rate here_burst)
-      here_ranged = rw is (w.tested.ranged (nth f (first + k - 1)) (at_inside f (first + k - 1) _ inside_here))
-
-      pub lining_product_fits : Fits w64 (here_rate * latency)
-      lining_product_fits =
-          record { fits = omega (arith, mul-le-mul (le_of_lt here_ranged.rate_fits) (le_of_lt w.latency_fits)) }
-
-      pub lining_later_fits : Fits w64 (here_burst + here_rate * latency)
-      lining_later_fits =
-          record {
-            fits =
-                omega (
-                  arith,
-                  mul-le-mul (le_of_lt here_ranged.rate_fits) (le_of_lt w.latency_fits),
-                  here_ranged.burst_fits,
-                );
-          }
-
-      -- the next is written
-      pub lining_step :
-          Lining f first rate burst latency n before
-          (set (set now (2 * k) here_rate) (2 * k + 1) (here_burst + here_rate * latency))
-          (k + 1)
-      unfolding later
-      lining_step =
-          record {
-            tested = w.tested;
-            inside = w.inside;
-            latency_fits = w.latency_fits;
-            some = omega arith;
-            filled =
-                filling_step w.filled more
-                (ap (later latency) is ∙ sym (line_nth f first rate burst latency k w.some inside_here));
-          }
-
--- All are written, and nothing else, over what was there before the line.
-module _
-    {f : List Bucket} {first rate burst latency n k : ℕ} (entry : List ℕ) {now : List ℕ}
-    (w : Lining f first rate burst latency n (set (set entry 0 rate) 1 burst) now k)
-  where
-    pub lining_kept : length now ≡ length entry
-    lining_kept = filling_kept w.filled ∙ length-set (set entry 0 rate) 1 burst ∙ length-set entry 0 rate
-
-    pub lining_end : n ≤ k → now ≡ over (flat (line_and_later f first rate burst latency)) entry
-    unfolding over
-    lining_end h =
-        let l : List ℕ = flat (line_and_later f first rate burst latency) in
-        let two : 2 ≤ length l = omega (arith, flat_length (line_and_later f first rate burst latency), line_length f first rate burst latency) in
-        filling_end w.filled h
-        ∙ ap (λ (rest : List ℕ). l ++ rest)
-        (drop-set-lt (length l) (set entry 0 rate) 1 burst (omega arith) ∙ drop-set-lt (length l) entry 0 rate (omega arith))
-
-pub ruleset lining = (
-  line_less,
-  line_count_fits,
-  line_first_place,
-  line_second_place,
-  lining_start,
-  lining_kept,
-  lining_count_fits,
-  lining_sum_fits,
-  lining_less,
-  lining_next_fits,
-  lining_at_fits,
-  lining_burst_fits,
-  lining_rate_place,
-  lining_burst_place,
-  lining_product_fits,
-  lining_later_fits,
-  lining_step,
-)
+  pub lining_later_fits : Fits w64 (here.burst + here.rate * latency)
+  lining_later_fits =
+      record { fits = omega (arith, mul-le-mul (le_of_lt here_ranged.rate_fits) (le_of_lt small), here_ranged.burst_fits) }

@@ -2,24 +2,20 @@
 -- Assumes nothing.
 use mathlib.Core.Path.{◌≡◌, refl, sym, ◌∙◌, ap}
 use mathlib.Core.Logic.{inl, inr}
-use mathlib.Core.Bool.{Bool, true, false, cond, true≢false}
+use mathlib.Core.Bool.{Bool, true, false, cond}
 use mathlib.Core.List.Memᴰ
 use mathlib.Core.List.{List, [], ◌∷◌, ◌++◌}
-use Prim.Native.Nat.{ℕ, ◌+◌, ◌*◌, ◌≤◌, ◌<◌}
+use Prim.Native.Nat.{ℕ, ◌+◌, ◌-◌, ◌≤◌, ◌<◌}
+use native.Mathlib.Nat.{le_of_lt}
 use native.Mathlib.Omega.{arith}
-use mir.Syntax.{w64}
-use mir.Val.{Fits}
-use lib.ListN.{length, drop, set, length-drop, drop_of_length-le}
+use lib.ListN.{length, drop, length-drop, drop_of_length-le}
 use lib.Seq.{drop-drop}
 use borrow.Author.Tests.{lt-ltb, le-ltb, le-leb, lt-leb}
 use Rattle.meaning.specs.Curve.{Bucket, ◌∈◌, flat}
-use Rattle.meaning.specs.Refusal.{over}
-use Rattle.meaning.proofs.Lists.{flat_length}
 use Rattle.checks.specs.Cited.{nth}
-use Rattle.checks.proofs.Buckets.{left_from, left_is}
-use Rattle.settle.proofs.Filling.{Filling, filling_start, filling_rate_fits, filling_rate_place, filling_burst_place, filling_step, filling_end, filling_kept}
-use Rattle.operations.specs.Cited.{bucket, comes_first, merged, NextOf}
-use Rattle.operations.specs.declared.gather.Next.{Next}
+use Rattle.checks.proofs.Buckets.{left_from}
+use Rattle.operations.specs.Cited.{bucket, comes_first, merged}
+use Rattle.operations.proofs.Pushing.{Pushed, pushed_start, pushed_count, pushed_next, pushed_end}
 
 -- ---- Two lists merged have the buckets of both.
 
@@ -94,181 +90,115 @@ unfolding merged
 merged_none [] = refl
 merged_none (k ∷ f) = refl
 
-abbrev next : Bool → ℕ → ℕ → Next
-next first rate burst = record { first = first; rate = rate; burst = burst }
+-- it is the first one's first
+abbrev First : Bucket → List Bucket → List Bucket → Type 0
+First a f g = (1 ≤ length f) × (merged f g ≡ a ∷ merged (drop 1 f) g)
 
--- the first list's bucket is next
-is_first :
-    {f g : List Bucket} {rate burst : ℕ} → 1 ≤ length f → merged f g ≡ bucket rate burst ∷ merged (drop 1 f) g
-    → NextOf f g (next true rate burst)
-is_first some e = record { first_list = λ t. (some, e); second_list = λ t. absurd (true≢false t) }
+-- or the second one's
+abbrev Second : Bucket → List Bucket → List Bucket → Type 0
+Second b f g = (1 ≤ length g) × (merged f g ≡ b ∷ merged f (drop 1 g))
 
--- the second list's is
-is_second :
-    {f g : List Bucket} {rate burst : ℕ} → 1 ≤ length g → merged f g ≡ bucket rate burst ∷ merged f (drop 1 g)
-    → NextOf f g (next false rate burst)
-is_second some e = record { first_list = λ t. absurd (true≢false (sym t)); second_list = λ t. (some, e) }
+module _ (f g : List Bucket) {i j : ℕ} where
+  -- nothing is left of the second list
+  pub next_first_left : {a : Bucket} → a ≡ nth f i → i < length f → length g ≤ j → First a (drop i f) (drop j g)
+  next_first_left {a} is left done =
+      let none : drop j g ≡ [] = drop_of_length-le g {i = j} done in
+      rw (left_from f i left is, none) (omega arith, merged_none _ ∙ ap (λ (l : List Bucket). a ∷ l) (sym (merged_none _)))
 
-module _
-    (f g : List Bucket) {i j : ℕ} (more : i + j < length f + length g) (within : (i ≤ length f) × (j ≤ length g))
-    {rate burst : ℕ} (is : bucket rate burst ≡ nth f i) {n : ℕ} (counted : n ≡ length g)
-  where
-    -- nothing is left of the second list
-    pub next_first_left : n ≤ j → NextOf (drop i f) (drop j g) (next true rate burst)
-    next_first_left done =
-        let none : drop j g ≡ [] = drop_of_length-le g {i = j} (omega (arith, counted)) in
-        rw (left_from f i (omega (arith, counted, within.1)) is, none)
-        (is_first (omega arith) (merged_none _ ∙ ap (λ (l : List Bucket). bucket rate burst ∷ l) (sym (merged_none _))))
+  -- nothing is left of the first
+  pub next_second_left : {b : Bucket} → b ≡ nth g j → j < length g → length f ≤ i → Second b (drop i f) (drop j g)
+  unfolding merged
+  next_second_left is left done =
+      let none : drop i f ≡ [] = drop_of_length-le f {i = i} done in
+      rw (none, left_from g j left is) (omega arith, refl)
 
-    module _ (left : j < n) {rate' burst' : ℕ} (is' : bucket rate' burst' ≡ nth g j) {m : ℕ} (counted' : m ≡ length f) where
-      second_left : drop j g ≡ bucket rate' burst' ∷ drop (j + 1) g
-      second_left = left_from g j (omega (arith, counted)) is'
+  -- or the test decides
+  module _ {a b : Bucket} (is : a ≡ nth f i) (is' : b ≡ nth g j) (left : i < length f) (left' : j < length g) where
+    by_test_first : comes_first a b ≡ true → First a (drop i f) (drop j g)
+    unfolding merged
+    by_test_first t = rw (left_from f i left is, left_from g j left' is') (omega arith, rw t refl)
 
-      -- nothing is left of the first
-      pub next_second_left : m ≤ i → NextOf (drop i f) (drop j g) (next false rate' burst')
-      unfolding merged
-      next_second_left done =
-          let none : drop i f ≡ [] = drop_of_length-le f {i = i} (omega (arith, counted')) in
-          rw (none, second_left) (is_second (omega arith) refl)
+    by_test_second : comes_first a b ≡ false → Second b (drop i f) (drop j g)
+    unfolding merged
+    by_test_second t = rw (left_from f i left is, left_from g j left' is') (omega arith, rw t refl)
 
-      module _ (left' : i < m) where
-        first_left : drop i f ≡ bucket rate burst ∷ drop (i + 1) f
-        first_left = left_from f i (omega (arith, counted')) is
+    -- the first is steeper,
+    pub next_first_steeper : b.rate < a.rate → First a (drop i f) (drop j g)
+    unfolding comes_first
+    next_first_steeper h = by_test_first (rw (lt-ltb b.rate a.rate h))
 
-        -- the test decides
-        by_test_first : comes_first (bucket rate burst) (bucket rate' burst') ≡ true → NextOf (drop i f) (drop j g) (next true rate burst)
-        unfolding merged
-        by_test_first t = rw (first_left, second_left) (is_first (omega arith) (rw t))
+    -- the second is,
+    pub next_second_steeper : a.rate < b.rate → Second b (drop i f) (drop j g)
+    unfolding comes_first
+    next_second_steeper h = by_test_second (rw (le-ltb b.rate a.rate (le_of_lt h), lt-ltb a.rate b.rate h))
 
-        by_test_second :
-            comes_first (bucket rate burst) (bucket rate' burst') ≡ false → NextOf (drop i f) (drop j g) (next false rate' burst')
-        unfolding merged
-        by_test_second t = rw (first_left, second_left) (is_second (omega arith) (rw t))
+    -- or both are as steep, and the lower comes first
+    pub next_first_lower : a.rate ≤ b.rate → b.rate ≤ a.rate → a.burst ≤ b.burst → First a (drop i f) (drop j g)
+    unfolding comes_first
+    next_first_lower h h' low =
+        by_test_first (rw (le-ltb b.rate a.rate h, le-ltb a.rate b.rate h', le-leb a.burst b.burst low))
 
-        -- the first is steeper,
-        pub next_first_steeper : rate' < rate → NextOf (drop i f) (drop j g) (next true rate burst)
-        unfolding comes_first
-        next_first_steeper h = by_test_first (rw (lt-ltb rate' rate h))
-
-        -- the second is,
-        pub next_second_steeper : rate ≤ rate' → rate < rate' → NextOf (drop i f) (drop j g) (next false rate' burst')
-        unfolding comes_first
-        next_second_steeper h h' = by_test_second (rw (le-ltb rate' rate h, lt-ltb rate rate' h'))
-
-        -- or both are as steep, and the lower comes first
-        pub next_first_lower :
-            rate ≤ rate' → rate' ≤ rate → burst ≤ burst' → NextOf (drop i f) (drop j g) (next true rate burst)
-        unfolding comes_first
-        next_first_lower h h' low = by_test_first (rw (le-ltb rate' rate h, le-ltb rate rate' h', le-leb burst burst' low))
-
-        pub next_second_lower :
-            rate ≤ rate' → rate' ≤ rate → burst' < burst → NextOf (drop i f) (drop j g) (next false rate' burst')
-        unfolding comes_first
-        next_second_lower h h' low = by_test_second (rw (le-ltb rate' rate h, le-ltb rate rate' h', lt-leb burst burst' low))
-
-pub ruleset nexts =
-    (next_first_left, next_second_left, next_first_steeper, next_second_steeper, next_first_lower, next_second_lower)
+    pub next_second_lower : a.rate ≤ b.rate → b.rate ≤ a.rate → b.burst < a.burst → Second b (drop i f) (drop j g)
+    unfolding comes_first
+    next_second_lower h h' low =
+        by_test_second (rw (le-ltb b.rate a.rate h, le-ltb a.rate b.rate h', lt-leb a.burst b.burst low))
 
 -- ---- The merging step by step.
 
--- Of f and g, n buckets in all, i and j are passed: they stand merged at the start of a list, and those that are left are to be
--- merged behind them.
-pub record Merging (f g : List Bucket) (n : ℕ) (before now : List ℕ) (i j : ℕ) : Type 0 where
-  pub filled : Filling (merged f g) n before now (i + j)
-  pub all : n ≡ length f + length g
-  pub within : (i ≤ length f) × (j ≤ length g)
-  pub left : drop (i + j) (merged f g) ≡ merged (drop i f) (drop j g)
+-- Of the buckets passed, i are the first list's. They stand merged, and those that are left are to be merged behind them.
+pub record Merging (f g : List Bucket) (passed i : ℕ) (items : List ℕ) : Type 0 where
+  pub taken : i ≤ passed
+  pub within : (i ≤ length f) × (passed - i ≤ length g)
+  pub pushed : Pushed (merged f g) (merged (drop i f) (drop (passed - i) g)) items
 
-pub merging_start :
-    (f g : List Bucket) {a b : ℕ} {before : List ℕ} → a ≡ length f → b ≡ length g → (length f ≤ 64) × (length g ≤ 64)
-    → 256 ≤ length before → Merging f g (a + b) before before 0 0
-merging_start f g ea eb few room =
-    record {
-      filled =
-          filling_start (omega (arith, merged_length f g)) (omega (arith, merged_length f g, few.0, few.1))
-          (omega (arith, flat_length (merged f g), merged_length f g, few.0, few.1));
-      all = omega arith;
-      within = (omega arith, omega arith);
-      left = refl;
-    }
+pub merging_start : (f g : List Bucket) {items : List ℕ} → items ≡ [] → Merging f g 0 0 items
+merging_start f g none =
+    record { taken = omega arith; within = (omega arith, omega arith); pushed = pushed_start (merged f g) none }
 
-module _ {f g : List Bucket} {n i j : ℕ} {before now : List ℕ} (w : Merging f g n before now i j) where
-  -- the numbers that count the buckets passed fit
-  pub merging_sum_fits : Fits w64 (i + j)
-  merging_sum_fits = record { fits = omega (arith, w.filled.few, w.filled.inside) }
+module _ {f g : List Bucket} {passed i : ℕ} {items : List ℕ} (w : Merging f g passed i items) where
+  -- there is room for one more
+  pub merging_room :
+      length f ≤ 64 → length g ≤ 64 → passed < length f + length g → length items + 2 ≤ 256
+  merging_room few few' more =
+      omega (
+        arith,
+        w.taken,
+        pushed_count w.pushed,
+        merged_length f g,
+        merged_length (drop i f) (drop (passed - i) g),
+        length-drop i f,
+        length-drop (passed - i) g,
+      )
 
-  module _ (more : i + j < n) where
-    pub merging_more : i + j < length f + length g
-    merging_more = omega (arith, w.all)
+  module _ {rate burst : ℕ} {with_rate with_both : List ℕ} (first : with_rate ≡ items ++ rate ∷ []) (second : with_both ≡ with_rate ++ burst ∷ []) where
+    -- it is the first list's
+    pub merging_first :
+        First (bucket rate burst) (drop i f) (drop (passed - i) g) → Merging f g (passed + 1) (i + 1) with_both
+    merging_first x =
+        let same : passed + 1 - (i + 1) ≡ passed - i = omega arith in
+        record {
+          taken = omega (arith, w.taken);
+          within = (omega (arith, x.0, length-drop i f), omega (arith, w.within.1));
+          pushed =
+              rw (same, ← drop-drop 1 i f) (pushed_next w.pushed x.1 first second);
+        }
 
-    pub merging_within : (i ≤ length f) × (j ≤ length g)
-    merging_within = w.within
-
-    pub merging_at_fits : Fits w64 (2 * (i + j))
-    merging_at_fits = filling_rate_fits w.filled more
-
-    pub merging_rate_place : 2 * (i + j) < length now
-    merging_rate_place = filling_rate_place w.filled more
-
-    pub merging_burst_place : (x : ℕ) → 2 * (i + j) + 1 < length (set now (2 * (i + j)) x)
-    merging_burst_place x = filling_burst_place w.filled more x
-
-    -- what is next
-    next_is :
-        {here : Bucket} {rest : List Bucket} → merged (drop i f) (drop j g) ≡ here ∷ rest
-        → (here ≡ nth (merged f g) (i + j)) × (drop (i + j + 1) (merged f g) ≡ rest)
-    next_is e = left_is (merged f g) (i + j) (omega (arith, w.filled.counted)) (w.left ∙ e)
-
-    module _ {r : Next} (x : NextOf (drop i f) (drop j g) r) where
-      -- it is the first list's
-      pub merging_first :
-          r.first ≡ true
-          → Merging f g n before (set (set now (2 * (i + j)) r.rate) (2 * (i + j) + 1) r.burst) (i + 1) j
-      merging_first t =
-          let known = next_is (x.first_list t).1 in
-          let further : i + j + 1 ≡ i + 1 + j = omega arith in
-          record {
-            filled = rw further at (filling_step w.filled more known.0);
-            all = w.all;
-            within = (omega (arith, (x.first_list t).0, length-drop i f), w.within.1);
-            left = rw (← further) (known.1 ∙ ap (λ (l : List Bucket). merged l (drop j g)) (drop-drop 1 i f));
-          }
-
-      -- it is the second list's
-      pub merging_second :
-          r.first ≡ false
-          → Merging f g n before (set (set now (2 * (i + j)) r.rate) (2 * (i + j) + 1) r.burst) i (j + 1)
-      merging_second t =
-          let known = next_is (x.second_list t).1 in
-          let further : i + j + 1 ≡ i + (j + 1) = omega arith in
-          record {
-            filled = rw further at (filling_step w.filled more known.0);
-            all = w.all;
-            within = (w.within.0, omega (arith, (x.second_list t).0, length-drop j g));
-            left = rw (← further) (known.1 ∙ ap (merged (drop i f)) (drop-drop 1 j g));
-          }
+    -- it is the second list's
+    pub merging_second :
+        Second (bucket rate burst) (drop i f) (drop (passed - i) g) → Merging f g (passed + 1) i with_both
+    merging_second x =
+        let further : passed + 1 - i ≡ passed - i + 1 = omega (arith, w.taken) in
+        record {
+          taken = omega (arith, w.taken);
+          within = (w.within.0, omega (arith, x.0, length-drop (passed - i) g));
+          pushed =
+              rw (further, ← drop-drop 1 (passed - i) g) (pushed_next w.pushed x.1 first second);
+        }
 
   -- all are merged
-  pub merging_place : n ≤ i + j → 2 * n ≡ length (flat (merged f g))
-  merging_place h = omega (arith, flat_length (merged f g), w.filled.counted)
-
-  pub merging_end : n ≤ i + j → now ≡ over (flat (merged f g)) before
-  merging_end h = filling_end w.filled h
-
-  pub merging_kept : length now ≡ length before
-  merging_kept = filling_kept w.filled
-
-pub ruleset merging = (
-  merging_start,
-  merging_sum_fits,
-  merging_more,
-  merging_within,
-  merging_at_fits,
-  merging_rate_place,
-  merging_burst_place,
-  merging_first,
-  merging_second,
-  merging_place,
-  merging_end,
-  merging_kept,
-)
+  pub merging_end : length f + length g ≤ passed → items ≡ flat (merged f g)
+  unfolding merged
+  merging_end all =
+      let none : drop i f ≡ [] = drop_of_length-le f {i = i} (omega (arith, w.taken, w.within.1)) in
+      let none' : drop (passed - i) g ≡ [] = drop_of_length-le g {i = passed - i} (omega (arith, w.taken, w.within.0)) in
+      pushed_end w.pushed (rw (none, none') refl)

@@ -1,6 +1,6 @@
--- From what `settle` leaves over the raw buckets of a curve behind a server to the outcome of behind, and to that of a hop.
+-- From what `settle` leaves over the raw buckets of a curve behind a rate-latency server to the outcome of behind.
 -- Assumes nothing.
-use mathlib.Core.Path.{◌≡◌, refl, sym, ◌∙◌, ap}
+use mathlib.Core.Path.{◌≡◌, sym, ◌∙◌, ap}
 use mathlib.Core.Logic.{inl, inr}
 use mathlib.Core.List.Memᴰ
 use mathlib.Core.List.{List}
@@ -9,9 +9,9 @@ use native.Mathlib.Nat.{le_of_lt, mul-le-mul}
 use native.Mathlib.Omega.{arith}
 use lib.ListN.{length}
 use Rattle.meaning.specs.Curve.{Bucket, ◌∈◌, flat, curve_of, NormalOf}
-use Rattle.meaning.specs.Server.{RateLatency, Server, no_server, later, slower, Excess, Behind, Backlog, Delay, port}
-use Rattle.meaning.specs.Refusal.{PartOutcome}
-use Rattle.meaning.specs.ServerQuestions.{passing, HopOutcome, HopPartOutcome}
+use Rattle.meaning.specs.Server.{RateLatency, later, slower, Excess, Behind, port}
+use Rattle.meaning.specs.Refusal.{Clear, PartOutcome}
+use Rattle.meaning.specs.ServerQuestions.{port_lines, passing}
 use Rattle.meaning.proofs.Lists.{at_inside, inside_at}
 use Rattle.meaning.proofs.Order.{le_or_lt}
 use Rattle.meaning.proofs.Curve.Value.{same_rate}
@@ -19,16 +19,13 @@ use Rattle.meaning.proofs.Curve.Curves.{same_buckets_normal}
 use Rattle.meaning.proofs.Server.Cut.{slower_has, slower_from, line_bucket, cut_list}
 use Rattle.meaning.proofs.Server.Excess.{gap_unique}
 use Rattle.meaning.proofs.Server.BothKinds.{behind_rate}
-use Rattle.meaning.proofs.Outcome.Outcomes.{refuse_in_part, whole_list}
-use Rattle.meaning.proofs.Outcome.Demands.{hop_refused, hop_answered, port_up_to}
-use Rattle.meaning.proofs.Outcome.Slips.{refusal_keeps_table}
 use Rattle.checks.specs.Cited.{nth}
 use Rattle.settle.specs.Cited.{AllWide, settling}
-use Rattle.operations.specs.Cited.{TestedPort, FirstSlow, Opened, line_and_later}
+use Rattle.operations.specs.Cited.{TestedPort, line_and_later}
+use Rattle.operations.specs.Walks.{FirstSlow}
 use Rattle.operations.proofs.Turning.{nowhere, slow_from}
-use Rattle.operations.proofs.Refusing.{port_clear}
+use Rattle.operations.proofs.Refusing.{tested_port}
 use Rattle.operations.proofs.Bounding.{excess_small}
-use Rattle.operations.proofs.Sharing.{opened_port}
 use Rattle.operations.proofs.Lining.{line_length, line_nth}
 use Rattle.operations.proofs.Asking.{settled}
 
@@ -135,76 +132,14 @@ module _
 
 -- ---- Behind.
 
-module _ {f : List ℕ} {rate latency checked first m : ℕ} (p : Opened f rate latency checked first m) where
-  -- an operand is refused: the whole table stays
-  pub hop_in_refused :
-      {at room : ℕ} {table : List ℕ} {code count backlog delay : ℕ} {through : Server}
-      → (checked ≡ 0 → ⊥) → code ≡ checked → count ≡ 0 → backlog ≡ 0 → delay ≡ 0 → through ≡ no_server
-      → HopPartOutcome f (port rate latency) at room table table code count backlog delay through
-  unfolding passing
-  hop_in_refused some same none none' none'' no_server_there =
-      rw (same, none, none', none'', no_server_there)
-      (record {
-        curve =
-            refuse_in_part (passing f (port rate latency)) _ _ _ (port_up_to f (port rate latency)) (omega (arith, some))
-            p.verdict;
-        figures = hop_refused f (port rate latency) some;
-      })
-
-  module _
-      (none : checked ≡ 0) {at room : ℕ} {before after : List ℕ} {code count : ℕ}
-      (o : PartOutcome (settling (flat (line_and_later (curve_of f) first rate (rate * latency + m) latency))) at room before after code count)
-    where
-      w : TestedPort (curve_of f) rate latency
-      w = opened_port p none
-
-      s : FirstSlow (curve_of f) rate first
-      s = p.first_is none
-
-      e : Excess (curve_of f) rate m
-      e = p.excess_is none
-
-      -- what `settle` leaves is the outcome of behind
-      passed_in : PartOutcome (passing f (port rate latency)) at room before after code count
-      unfolding passing
-      passed_in =
-          settled (passing f (port rate latency)) (raw w s e) (raw_behind w s e) (behind_raw w s e) (port_clear f p.verdict none)
-          (omega (arith, line_length (curve_of f) first rate (rate * latency + m) latency)) (raw_wide w s e) o
-
-      -- the answer is too large, or has no room
-      pub hop_in_large :
-          {code' count' backlog delay : ℕ} {through : Server}
-          → (code ≡ 0 → ⊥) → code' ≡ code → count' ≡ 0 → backlog ≡ 0 → delay ≡ 0 → through ≡ no_server
-          → HopPartOutcome f (port rate latency) at room before after code' count' backlog delay through
-      hop_in_large some same none' none'' none''' no_server_there =
-          rw (same, none', none'', none''', no_server_there)
-          (record {
-            curve = rw (refusal_keeps_table passed_in some).1 at passed_in;
-            figures = hop_refused f (port rate latency) some;
-          })
-
-      -- or it is handed over, with the figures
-      pub hop_in_answered :
-          {backlog delay : ℕ} {through : Server} → code ≡ 0 → Backlog (curve_of f) (port rate latency) backlog
-          → Delay (curve_of f) (port rate latency) delay → through ≡ port rate latency
-          → HopPartOutcome f (port rate latency) at room before after 0 count backlog delay through
-      hop_in_answered right b d same =
-          rw same (record { curve = rw right at passed_in; figures = hop_answered f (port rate latency) refl b d })
-
-pub ruleset hopping = (hop_in_refused, hop_in_large, hop_in_answered)
-
--- The whole list is a part of itself.
-pub hop_whole :
-    (f : List ℕ) (s : Server) {before after : List ℕ} {code count backlog delay : ℕ} {through : Server}
-    → HopPartOutcome f s 0 (length before) before after code count backlog delay through
-    → HopOutcome f s before after code count backlog delay through
-hop_whole f s o = record { curve = whole_list (passing f s) o.curve; figures = o.figures }
-
--- A hop leaves the curve behind.
-pub hop_curve :
-    (f : List ℕ) (s : Server) {at room : ℕ} {before after : List ℕ} {code count backlog delay : ℕ} {through : Server}
-    → HopPartOutcome f s at room before after code count backlog delay through
-    → PartOutcome (passing f s) at room before after code count
-hop_curve f s o = o.curve
-
-pub ruleset hop_parts = (hop_whole, hop_curve)
+-- what `settle` leaves is the outcome of behind
+pub passed_rated :
+    (f : List ℕ) {rate latency first m : ℕ} → Clear (port_lines f (port rate latency)) → FirstSlow (curve_of f) rate first
+    → Excess (curve_of f) rate m → {at room : ℕ} {before after : List ℕ} {code count : ℕ}
+    → PartOutcome (settling (flat (line_and_later (curve_of f) first rate (rate * latency + m) latency))) at room before after code count
+    → PartOutcome (passing f (port rate latency)) at room before after code count
+unfolding passing
+passed_rated f {rate} {latency} {first} {m} clear s e o =
+    let w : TestedPort (curve_of f) rate latency = tested_port f clear in
+    settled (passing f (port rate latency)) (raw w s e) (raw_behind w s e) (behind_raw w s e) clear
+    (omega (arith, line_length (curve_of f) first rate (rate * latency + m) latency)) (raw_wide w s e) o

@@ -1,42 +1,23 @@
 -- The tests of a curve with a server: those of the curve and of the server, then the last rate against the server's.
 -- Assumes nothing.
-use mathlib.Core.Path.{◌≡◌, sym, ◌∙◌, subst}
+use mathlib.Core.Path.{◌≡◌, sym, subst}
 use mathlib.Core.Logic.{inl}
 use mathlib.Core.List.{List}
-use Prim.Native.Nat.{ℕ, ◌-◌, ◌≤◌, ◌<◌}
+use Prim.Native.Nat.{ℕ, ◌≤◌, ◌<◌}
 use native.Mathlib.Omega.{arith}
 use lib.Dec.{lit≤}
-use lib.ListN.{length}
-use Rattle.meaning.specs.Curve.{Bucket, curve_of}
+use Rattle.meaning.specs.Curve.{curve_of}
 use Rattle.meaning.specs.Server.{Server, pure_delay, last, port}
 use Rattle.meaning.specs.Refusal.{UNBOUNDED, number, Lines, ◌when◌, ◌or◌, Clear, Verdict, accepted, rejected, curve_lines}
 use Rattle.meaning.specs.ServerQuestions.{server_lines, port_lines, cross_lines}
 use Rattle.meaning.specs.Computed.{earlier}
-use Rattle.meaning.proofs.Lists.{empty_is}
 use Rattle.meaning.proofs.Order.{not_above}
 use Rattle.meaning.proofs.Outcome.Outcomes.{from_when, from_or, up_to_or, clear_or, line_hit, line_miss, verdict_or, refused_first, refused_then}
 use Rattle.meaning.proofs.Outcome.Answers.{curve_up_to}
 use Rattle.meaning.proofs.Outcome.Demands.{server_up_to, port_curve, port_server, port_bounded}
-use Rattle.checks.specs.Cited.{nth}
-use Rattle.checks.proofs.Checks.{passed}
 use Rattle.servers.specs.Cited as servers
 use Rattle.operations.specs.Cited.{bucket, TestedPort}
 use Rattle.operations.proofs.Valuing.{tested}
-use Rattle.operations.proofs.Turning.{last_numbered}
-
--- ---- The last bucket.
-
-module _ (f : List Bucket) {n : ℕ} (counted : n ≡ length f) {here : Bucket} where
-  -- there is none
-  pub last_none : n ≡ 0 → here ≡ nth f 0 → here ≡ last f
-  unfolding last
-  last_none none is = is ∙ rw (empty_is f (omega arith))
-
-  -- it is the one numbered one less than there are
-  pub last_counted : (n ≡ 0 → ⊥) → here ≡ nth f (n - 1) → here ≡ last f
-  last_counted some is = is ∙ last_numbered f (n - 1) (omega (arith, some))
-
-pub ruleset lasts = (last_none, last_counted)
 
 -- ---- A curve and a server.
 
@@ -75,8 +56,7 @@ module _ (f : List ℕ) {rate latency code : ℕ} (v : Verdict (curve_lines f or
 
     module _ {last_rate burst : ℕ} (is : bucket last_rate burst ≡ last (curve_of f)) where
       -- the last rate is above the server's,
-      pub port_above : rate < last_rate → Verdict (port_lines f (port rate latency)) 8
-      unfolding number
+      pub port_above : rate < last_rate → Verdict (port_lines f (port rate latency)) (number UNBOUNDED)
       port_above above = refused_then taken (line_hit UNBOUNDED (rw (← is) above))
 
       -- or it is not
@@ -84,26 +64,20 @@ module _ (f : List ℕ) {rate latency code : ℕ} (v : Verdict (curve_lines f or
       port_taken bounded = refused_then taken (line_miss (rw (← is) (λ above. omega arith)))
 
       -- the last rate is the server's or above,
-      pub cross_above : rate ≤ last_rate → Verdict (cross_lines f (port rate latency)) 8
-      unfolding number
+      pub cross_above : rate ≤ last_rate → Verdict (cross_lines f (port rate latency)) (number UNBOUNDED)
       cross_above above = refused_then taken (line_hit UNBOUNDED (rw (← is) above))
 
       -- or it is below
       pub cross_taken : last_rate < rate → Verdict (cross_lines f (port rate latency)) 0
       cross_taken below = refused_then taken (line_miss (rw (← is) (λ above. omega arith)))
 
-pub ruleset port_tests = (port_refused, port_above, port_taken, cross_above, cross_taken)
-
 -- ---- What is known of a curve and a server that no line refuses.
 
-module _ (f : List ℕ) {rate latency code : ℕ} (v : Verdict (port_lines f (port rate latency)) code) (none : code ≡ 0) where
-  pub port_clear : Clear (port_lines f (port rate latency))
-  port_clear = passed v none
-
-  pub tested_port : TestedPort (curve_of f) rate latency
-  tested_port =
-      record {
-        curve = tested f (port_curve f (port rate latency) port_clear);
-        bounded = not_above (port_bounded f (port rate latency) port_clear);
-        server = port_server f (port rate latency) port_clear;
-      }
+pub tested_port :
+    (f : List ℕ) {rate latency : ℕ} → Clear (port_lines f (port rate latency)) → TestedPort (curve_of f) rate latency
+tested_port f {rate} {latency} clear =
+    record {
+      curve = tested f (port_curve f (port rate latency) clear);
+      bounded = not_above (port_bounded f (port rate latency) clear);
+      server = port_server f (port rate latency) clear;
+    }

@@ -1,74 +1,67 @@
--- A curve and a server that were tested, with M; and the outcomes of backlog and delay.
+-- What the answers about a curve at a server of either kind share: the outcomes of backlog, delay and a hop, where an operand is
+-- refused and where it is not.
 -- Assumes nothing.
 use mathlib.Core.Path.{◌≡◌, refl}
 use mathlib.Core.List.{List, []}
-use Prim.Native.Nat.{ℕ, ◌^◌, ◌≤◌, ◌<◌}
+use Prim.Native.Nat.{ℕ}
 use native.Mathlib.Omega.{arith}
 use Rattle.meaning.specs.Curve.{curve_of}
-use Rattle.meaning.specs.Server.{Excess, Backlog, Delay, last, port}
-use Rattle.meaning.specs.Refusal.{Verdict, FigureOutcome}
-use Rattle.meaning.specs.ServerQuestions.{port_lines, BacklogOutcome, DelayOutcome}
-use Rattle.meaning.proofs.Outcome.Outcomes.{refusal}
-use Rattle.operations.specs.Cited.{Tested, TestedPort, FirstSlow, Opened}
-use Rattle.operations.proofs.Refusing.{port_clear, tested_port}
+use Rattle.meaning.specs.Server.{Server, Backlog, Delay, no_server}
+use Rattle.meaning.specs.Refusal.{Verdict, FigureOutcome, PartOutcome}
+use Rattle.meaning.specs.ServerQuestions.{port_lines, passing, BacklogOutcome, DelayOutcome, HopPartOutcome}
+use Rattle.meaning.proofs.Outcome.Outcomes.{refusal, refuse_in_part}
+use Rattle.meaning.proofs.Outcome.Demands.{hop_refused, hop_answered, port_up_to}
+use Rattle.checks.proofs.Checks.{passed}
 
--- ---- What is shared.
+module _ (f : List ℕ) (s : Server) {code : ℕ} (v : Verdict (port_lines f s) code) where
+  -- ---- An operand is refused.
 
-module _ (f : List ℕ) {rate latency code : ℕ} (v : Verdict (port_lines f (port rate latency)) code) where
-  -- an operand is refused
-  pub open_refused : (code ≡ 0 → ⊥) → Opened f rate latency code 0 0
-  open_refused some = record { verdict = v; first_is = λ e. absurd (some e); excess_is = λ e. absurd (some e) }
+  module _ (some : code ≡ 0 → ⊥) where
+    -- no figure,
+    pub backlog_refused : BacklogOutcome f s code 0
+    unfolding BacklogOutcome
+    backlog_refused = FigureOutcome.refused (refusal [] (omega (arith, some)) v)
+
+    pub delay_refused : DelayOutcome f s code 0
+    unfolding DelayOutcome
+    delay_refused = FigureOutcome.refused (refusal [] (omega (arith, some)) v)
+
+    -- and of a hop nothing: the whole table stays
+    pub hop_operand : {at room : ℕ} {table : List ℕ} → HopPartOutcome f s at room table table code 0 0 0 no_server
+    unfolding passing
+    hop_operand =
+        record {
+          curve = refuse_in_part (passing f s) _ _ _ (port_up_to f s) (omega (arith, some)) v;
+          figures = hop_refused f s some;
+        }
+
+  -- ---- None is.
 
   module _ (none : code ≡ 0) where
-    -- what the search for the first bucket of rate at most R needs, and M
-    pub open_curve : Tested (curve_of f)
-    open_curve = (tested_port f v none).curve
+    pub backlog_answered : {figure : ℕ} → Backlog (curve_of f) s figure → BacklogOutcome f s 0 figure
+    unfolding BacklogOutcome
+    backlog_answered is = FigureOutcome.answered (passed v none) refl is
 
-    pub open_bounded : (last (curve_of f)).rate ≤ rate
-    open_bounded = (tested_port f v none).bounded
+    pub delay_answered : {figure : ℕ} → Delay (curve_of f) s figure → DelayOutcome f s 0 figure
+    unfolding DelayOutcome
+    delay_answered is = FigureOutcome.answered (passed v none) refl is
 
-    pub open_rate : rate < 2 ^ 20
-    open_rate = (tested_port f v none).server.rate_fits
+module _ (f : List ℕ) (s : Server) {at room : ℕ} {before after : List ℕ} where
+  -- the curve behind is too large, or has no room
+  pub hop_large :
+      {code : ℕ} → PartOutcome (passing f s) at room before after code 0 → (code ≡ 0 → ⊥)
+      → HopPartOutcome f s at room before after code 0 0 0 no_server
+  hop_large o some = record { curve = o; figures = hop_refused f s some }
 
-    -- both are found
-    pub open_taken : {first m : ℕ} → FirstSlow (curve_of f) rate first → Excess (curve_of f) rate m → Opened f rate latency 0 first m
-    open_taken s e = record { verdict = rw none at v; first_is = λ _. s; excess_is = λ _. e }
+  -- or it is handed over, with the figures
+  pub hop_handed :
+      {count backlog delay : ℕ} {through : Server} → PartOutcome (passing f s) at room before after 0 count
+      → Backlog (curve_of f) s backlog → Delay (curve_of f) s delay → through ≡ s
+      → HopPartOutcome f s at room before after 0 count backlog delay through
+  hop_handed o b d same = rw same (record { curve = o; figures = hop_answered f s refl b d })
 
-pub ruleset opens = (open_refused, open_curve, open_bounded, open_rate, open_taken)
-
--- ---- What backlog, delay and the curve behind need.
-
-module _ {f : List ℕ} {rate latency code first m : ℕ} (p : Opened f rate latency code first m) where
-  module _ (none : code ≡ 0) where
-    pub opened_port : TestedPort (curve_of f) rate latency
-    opened_port = tested_port f p.verdict none
-
-    pub opened_first : FirstSlow (curve_of f) rate first
-    opened_first = p.first_is none
-
-    pub opened_excess : Excess (curve_of f) rate m
-    opened_excess = p.excess_is none
-
-  -- ---- The outcomes.
-
-  pub backlog_refused : (code ≡ 0 → ⊥) → BacklogOutcome f (port rate latency) code 0
-  unfolding BacklogOutcome
-  backlog_refused some = FigureOutcome.refused (refusal [] (omega (arith, some)) p.verdict)
-
-  pub delay_refused : (code ≡ 0 → ⊥) → DelayOutcome f (port rate latency) code 0
-  unfolding DelayOutcome
-  delay_refused some = FigureOutcome.refused (refusal [] (omega (arith, some)) p.verdict)
-
-  pub backlog_answered :
-      {figure : ℕ} → code ≡ 0 → Backlog (curve_of f) (port rate latency) figure → BacklogOutcome f (port rate latency) 0 figure
-  unfolding BacklogOutcome
-  backlog_answered none is = FigureOutcome.answered (port_clear f p.verdict none) refl is
-
-  pub delay_answered :
-      {figure : ℕ} → code ≡ 0 → Delay (curve_of f) (port rate latency) figure → DelayOutcome f (port rate latency) 0 figure
-  unfolding DelayOutcome
-  delay_answered none is = FigureOutcome.answered (port_clear f p.verdict none) refl is
-
-pub ruleset opened = (opened_port, opened_first, opened_excess)
-
-pub ruleset port_figures = (opened, backlog_refused, delay_refused, backlog_answered, delay_answered)
+  -- A hop leaves the curve behind.
+  pub hop_curve :
+      {code count backlog delay : ℕ} {through : Server} → HopPartOutcome f s at room before after code count backlog delay through
+      → PartOutcome (passing f s) at room before after code count
+  hop_curve o = o.curve

@@ -5,7 +5,7 @@ use mathlib.Core.Path.{◌≡◌, refl, sym, ◌∙◌, ap}
 use mathlib.Core.Logic.{inl, inr}
 use mathlib.Core.List.Memᴰ
 use mathlib.Core.List.{List, [], ◌∷◌, ◌++◌}
-use Prim.Native.Nat.{ℕ, zero, suc, ◌+◌, ◌-◌, ◌*◌, ◌/◌, ◌^◌, ◌≤◌, ◌<◌, max}
+use Prim.Native.Nat.{ℕ, ◌+◌, ◌-◌, ◌*◌, ◌/◌, ◌^◌, ◌≤◌, ◌<◌, max}
 use native.Mathlib.Nat.{le_of_lt, le_trans, le_of_eq, mul-le-mul, div-le_self}
 use native.Mathlib.Omega.{arith}
 use mir.Syntax.{w64}
@@ -13,84 +13,27 @@ use mir.Val.{Fits}
 use lib.ListN.{length, take, drop, take-append-drop, length-take}
 use lib.Seq.{get_or-take}
 use Rattle.meaning.specs.Curve.{Bucket, ◌∈◌, bucket_at, NormalForm, reads}
-use Rattle.meaning.specs.Server.{Excess, last}
+use Rattle.meaning.specs.Server.{Excess}
 use Rattle.meaning.specs.Computed.{excess_at}
 use Rattle.meaning.proofs.Lists.{append_each, at_inside, inside_at, falling_at}
 use Rattle.meaning.proofs.Order.{le_or_lt}
-use Rattle.meaning.proofs.Curve.Value.{same_rate, same_bucket_at, value_unique}
+use Rattle.meaning.proofs.Curve.Value.{same_bucket_at, value_unique}
 use Rattle.meaning.proofs.Curve.Reads.{burst_below}
 use Rattle.meaning.proofs.Server.Excess.{Turn, before_lowest, first_lowest, turn_excess, starting_excess}
 use Rattle.checks.specs.Cited.{nth}
 use Rattle.checks.proofs.Buckets.{left_from}
-use Rattle.operations.specs.Cited.{bucket, Tested, LeastOf, FirstSlow, CrossingAt, tick_of}
+use Rattle.operations.specs.Cited.{bucket, Tested, LeastOf, CrossingAt, tick_of}
+use Rattle.operations.specs.Walks.{FirstSlow}
 use Rattle.operations.specs.declared.crossings.Crossing.{Crossing}
 
 -- What is read past the last bucket.
 abbrev pub nowhere : Bucket
 nowhere = record { rate = 0; burst = 0 }
 
--- ---- The last bucket by its number.
-
-pub last_numbered : (f : List Bucket) (n : ℕ) → n + 1 ≡ length f → nth f n ≡ last f
-unfolding last
-last_numbered [] n e = absurd (omega arith)
-last_numbered (k ∷ []) n e = let none : n ≡ 0 = omega arith in rw none
-last_numbered (k ∷ j ∷ f) zero e = absurd (omega arith)
-last_numbered (k ∷ j ∷ f) (suc n) e = last_numbered (j ∷ f) n (omega arith)
-
--- ---- The search for the first bucket of rate at most R.
-
--- Those before k are steeper.
-pub record Seeking (f : List Bucket) (rate k : ℕ) : Type 0 where
-  pub tested : Tested f
-  pub bounded : (last f).rate ≤ rate
-  pub inside : k < length f
-  pub steeper : (i : ℕ) → i < k → rate < (nth f i).rate
-
-pub seeking_start : (f : List Bucket) {rate : ℕ} → Tested f → (last f).rate ≤ rate → Seeking f rate 0
-seeking_start f tested bounded =
-    record { tested = tested; bounded = bounded; inside = tested.form.some; steeper = λ i none. absurd (omega arith) }
-
-module _ {f : List Bucket} {rate k here_rate burst : ℕ} (w : Seeking f rate k) (is : bucket here_rate burst ≡ nth f k) where
-  -- it is this one
-  pub seeking_found : here_rate ≤ rate → FirstSlow f rate k
-  seeking_found slow =
-      record { inside = w.inside; steeper = w.steeper; slow = rw (← is) slow }
-
-  module _ (steep : rate < here_rate) where
-    -- so this one is not the last
-    pub seeking_more : k + 1 < length f
-    seeking_more =
-        elim (le_or_lt (length f) (k + 1)) [
-          | inl end ↦
-              let e : nth f k ≡ last f = last_numbered f k (omega (arith, w.inside)) in
-              absurd (omega (arith, w.bounded, same_rate (is ∙ e)))
-          | inr more ↦ more
-        ]
-
-    pub seeking_fits : Fits w64 (k + 1)
-    seeking_fits = record { fits = omega (arith, seeking_more, w.tested.few) }
-
-    pub seeking_less : length f - (k + 1) < length f - k
-    seeking_less = omega (arith, w.inside)
-
-    -- and the search goes on
-    pub seeking_step : Seeking f rate (k + 1)
-    seeking_step = record { tested = w.tested; bounded = w.bounded; inside = seeking_more; steeper = steeper }
-      where
-        steeper : (i : ℕ) → i < k + 1 → rate < (nth f i).rate
-        steeper i low =
-            elim (le_or_lt k i) [
-              | inl last ↦ let e : i ≡ k = omega arith in rw (e, ← is) steep
-              | inr passed ↦ w.steeper i passed
-            ]
-
-pub ruleset seeking = (seeking_start, seeking_found, seeking_fits, seeking_less, seeking_step)
-
 -- ---- Where two neighbours cross.
 
 module _ {f : List Bucket} {k : ℕ} (w : Tested f) (h : (0 < k) × (k < length f)) where
-  pub crossing_before : (nth f k).rate < (nth f (k - 1)).rate
+  crossing_before : (nth f k).rate < (nth f (k - 1)).rate
   crossing_before = falling_at f w.form.falling _ (k - 1) k (omega arith) h.1
 
   crossing_rises : (nth f (k - 1)).burst < (nth f k).burst
@@ -105,10 +48,6 @@ module _ {f : List Bucket} {k : ℕ} (w : Tested f) (h : (0 < k) × (k < length 
     pub crossing_rate : rate ≤ rate_before
     crossing_rate = le_of_lt (rw (← before, ← is) at crossing_before)
 
-    -- so it is a time
-    pub crossing_is : CrossingAt f k (record { rise = burst - burst_before; fall = rate_before - rate })
-    crossing_is = record { rise_is = rw (← before, ← is); fall_is = rw (← before, ← is) }
-
   module _ {c : Crossing} (x : CrossingAt f k c) where
     -- that is not past every other,
     pub crossing_some : 0 < c.fall
@@ -121,15 +60,11 @@ module _ {f : List Bucket} {k : ℕ} (w : Tested f) (h : (0 < k) × (k < length 
     pub crossing_fall_fits : c.fall < 2 ^ 20
     crossing_fall_fits = omega (arith, x.fall_is, (w.ranged (nth f (k - 1)) (at_inside f (k - 1) _ (omega arith))).rate_fits)
 
-pub ruleset crossing = (crossing_burst, crossing_rate, crossing_is)
-
 -- ---- The whole tick up to a crossing.
 
 pub tick_is : {f : List Bucket} {k : ℕ} {c : Crossing} → CrossingAt f k c → c.rise / c.fall ≡ tick_of f k
 unfolding tick_of
 tick_is x = rw (x.rise_is, x.fall_is)
-
-pub ruleset ticks = (crossing_some, tick_is)
 
 -- ---- Where the greatest of reads(s) - R·s is reached.
 
@@ -152,12 +87,6 @@ module _ {f : List Bucket} {rate first : ℕ} (w : Tested f) (s : FirstSlow f ra
       ]
 
   module _ (some : first ≡ 0 → ⊥) where
-    pub turn_some : 0 < first
-    turn_some = omega (arith, some)
-
-    pub turn_inside : first ≤ length f
-    turn_inside = omega (arith, s.inside)
-
     -- the first bucket of rate at most R and the one before it
     unfoldable turn : Turn f rate
     turn =
@@ -256,5 +185,3 @@ module _ {f : List Bucket} {rate first : ℕ} (w : Tested f) (s : FirstSlow f ra
 
         pub turn_after_fits : Fits w64 (rate * (tick + 1))
         turn_after_fits = record { fits = omega (arith, mul-le-mul (le_of_lt ranged) turn_tick) }
-
-pub ruleset excesses = (excess_start, turn_some, turn_inside, turn_tick, turn_small, turn_next_fits, excess_turn, turn_product_fits, turn_after_fits)

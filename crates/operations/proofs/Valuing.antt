@@ -2,7 +2,7 @@
 -- Assumes nothing.
 use mathlib.Core.Path.{◌≡◌, refl, sym, ◌∙◌, ap, subst}
 use mathlib.Core.List.{List, [], ◌∷◌}
-use Prim.Native.Nat.{ℕ, ◌^◌, ◌≤◌, ◌<◌}
+use Prim.Native.Nat.{ℕ, ◌^◌, ◌≤◌}
 use native.Mathlib.Nat.{lt_of_not-le, le_of_lt}
 use native.Mathlib.Omega.{arith}
 use lib.ListN.{length}
@@ -14,7 +14,7 @@ use Rattle.meaning.proofs.Curve.Reads.{reads_later, first_burst}
 use Rattle.meaning.proofs.Outcome.Outcomes.{verdict_or, refusal}
 use Rattle.meaning.proofs.Outcome.Answers.{clear_form}
 use Rattle.checks.specs.Cited.{nth}
-use Rattle.checks.proofs.Checks.{passed, clear_first, clear_second, curve_ranged, curve_some, curve_few}
+use Rattle.checks.proofs.Checks.{passed, clear_second, curve_ranged, curve_few}
 use Rattle.operations.specs.Cited.{bucket, Tested, LeastOf}
 use Rattle.operations.proofs.Walking.{least_of_all}
 
@@ -36,15 +36,7 @@ module _ (f : List ℕ) (t : ℕ) {x y code : ℕ} (v : Verdict (curve_lines f) 
     both_clear : Clear (curve_lines f or tick_line t)
     both_clear = passed together none
 
-    -- what the least value needs: a curve that no line refuses,
-    pub value_tested : Tested (curve_of f)
-    value_tested = tested f (clear_first both_clear)
-
-    -- a bucket of it,
-    pub value_some : 0 < length (curve_of f)
-    value_some = curve_some f (clear_first both_clear)
-
-    -- and a tick in range
+    -- what the least value needs: a tick in range
     pub value_tick : t ≤ 2 ^ 40
     value_tick = le_of_lt (lt_of_not-le (λ over. clear_second both_clear RANGE (refl, over)))
 
@@ -59,8 +51,6 @@ module _ (f : List ℕ) (t : ℕ) {x y code : ℕ} (v : Verdict (curve_lines f) 
     unfolding ValueOutcome reads
     value_answered some figure least =
         FigureOutcome.answered both_clear refl (least_of_all (curve_of f) least ∙ reads_later (curve_of f) t (omega (arith, some)))
-
-pub ruleset value_outcomes = (value_refused, value_tested, value_some, value_tick, value_nothing, value_answered)
 
 -- the first bucket has the burst
 first_numbered : (f : List Bucket) → NormalForm f → Burst f (nth f 0).burst
@@ -79,5 +69,3 @@ module _ (f : List ℕ) {code : ℕ} (v : Verdict (curve_lines f) code) where
   burst_answered none is =
       FigureOutcome.answered (passed v none) refl
       (rw (ap (λ (j : Bucket). j.burst) is) (first_numbered (curve_of f) (clear_form f (passed v none))))
-
-pub ruleset burst_outcomes = (burst_refused, burst_answered)

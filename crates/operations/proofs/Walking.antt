@@ -1,7 +1,11 @@
 -- Along a curve in normal form the values at a tick fall from bucket to bucket and then rise. So a walk that stops at the first
 -- bucket that does not go lower has the least value of all on its way, and of all that it did not come to.
 -- Assumes nothing.
-use mathlib.Core.Path.{◌≡◌, sym}
+use mathlib.Core.Path.{◌≡◌, sym, ◌∙◌, ap}
+use mathlib.Core.Bool.{true≢false}
+use Rattle.std.proofs.lemmas.Bool.{eqb-true}
+use borrow.Author.Tests.{eq-eqb, ne_eqb}
+use Rattle.std.proofs.Common.{nat_eq}
 use mathlib.Core.Logic.{inl, inr}
 use mathlib.Core.List.{List}
 use Prim.Native.Nat.{ℕ, ◌+◌, ◌-◌, ◌*◌, ◌^◌, ◌≤◌, ◌<◌}
@@ -12,12 +16,15 @@ use mir.Val.{Fits}
 use lib.ListN.{length}
 use Rattle.meaning.specs.Curve.{Bucket, ◌∈◌, bucket_at, NormalForm, reads}
 use Rattle.meaning.specs.Refusal.{InRange, AllInRange}
+use Rattle.meaning.specs.Server.{last}
 use Rattle.meaning.proofs.Lists.{at_inside, inside_at, falling_at}
 use Rattle.meaning.proofs.Order.{le_or_lt}
-use Rattle.meaning.proofs.Curve.Value.{same_bucket_at, value_unique}
+use Rattle.meaning.proofs.Curve.Value.{same_rate, same_bucket_at, value_unique, value_least, value_reached}
 use Rattle.meaning.proofs.Server.Excess.{below_flat, below_steep}
-use Rattle.checks.specs.Cited.{nth}
-use Rattle.operations.specs.Cited.{bucket, Tested, LeastOf}
+use Rattle.meaning.proofs.Server.Joining.{last_inside, last_slowest}
+use Rattle.checks.specs.Cited.{Tells, nth}
+use Rattle.checks.proofs.Buckets.{last_numbered}
+use Rattle.operations.specs.Cited.{bucket, LeastOf}
 
 -- ---- One bucket's value.
 
@@ -40,8 +47,6 @@ module _
     unfolding bucket_at
     value_of_is = rw (← is) (omega arith)
 
-pub ruleset bucket_values = (value_product_fits, value_sum_fits, value_of_is)
-
 -- ---- The values fall, and then rise.
 
 module _ (f : List Bucket) (n : NormalForm f) (t i j l : ℕ) (before : i < j) (after : j < l) (inside : l < length f) where
@@ -59,220 +64,79 @@ module _ (f : List Bucket) (n : NormalForm f) (t i j l : ℕ) (before : i < j) (
 
 -- ---- Walking from a bucket on.
 
--- Of n buckets, those from `from` to k were read, and the one numbered k has the least value of them.
-pub record Onwards (f : List Bucket) (n t from k found : ℕ) : Type 0 where
-  pub tested : Tested f
-  pub tick_fits : t ≤ 2 ^ 40
-  pub counted : n ≡ length f
-  pub from_on : from ≤ k
-  pub inside : k < n
-  pub found_is : found ≡ bucket_at (nth f k) t 1
-  pub lowest : (i : ℕ) → from ≤ i → i ≤ k → found ≤ bucket_at (nth f i) t 1
+-- Those from `from` to before k were read, and the last of them has the least value.
+pub record Onwards (f : List Bucket) (t from k found : ℕ) : Type 0 where
+  pub from_on : from < k
+  pub inside : k ≤ length f
+  pub found_is : found ≡ bucket_at (nth f (k - 1)) t 1
+  pub lowest : (i : ℕ) → from ≤ i → i < k → found ≤ bucket_at (nth f i) t 1
 
-pub onwards_start :
-    {f : List Bucket} {n from t found : ℕ} → n ≡ length f → Tested f → from < length f → t ≤ 2 ^ 40
-    → found ≡ bucket_at (nth f from) t 1 → Onwards f n t from from found
-onwards_start {f} {n} {from} {t} {found} counted tested inside small is =
+-- where the next bucket is not lower, none after it is
+pub onwards_stop :
+    {f : List Bucket} {t from k found next : ℕ} → NormalForm f → Onwards f t from k found → k < length f
+    → next ≡ bucket_at (nth f k) t 1 → found ≤ next → LeastOf f t from (length f) found
+onwards_stop {f} {t} {from} {k} {found} form w more is stays =
     record {
-      tested = tested;
-      tick_fits = small;
-      counted = counted;
-      from_on = omega arith;
-      inside = omega arith;
-      found_is = is;
-      lowest = λ i low high. one i (omega arith);
+      at = k - 1;
+      from_on = omega (arith, w.from_on);
+      before_end = omega (arith, w.from_on, w.inside);
+      reached = w.found_is;
+      smallest = smallest;
     }
   where
-    one : (i : ℕ) → i ≡ from → found ≤ bucket_at (nth f i) t 1
-    one i e = rw e (le_of_eq is)
+    rises : (i : ℕ) → k < i → i < length f → found ≤ bucket_at (nth f i) t 1
+    rises i past inside =
+        omega (arith, then_rises f form t (k - 1) k i (omega (arith, w.from_on)) past inside (omega (arith, w.found_is)))
 
-module _ {f : List Bucket} {n t from k found : ℕ} (w : Onwards f n t from k found) where
-  pub onwards_next_fits : Fits w64 (k + 1)
-  onwards_next_fits = record { fits = omega (arith, w.inside, w.counted, w.tested.few) }
-
-  -- no bucket is left
-  pub onwards_end : n ≤ k + 1 → LeastOf f t from (length f) found
-  onwards_end end =
-      record {
-        at = k;
-        from_on = w.from_on;
-        before_end = omega (arith, w.inside, w.counted);
-        reached = w.found_is;
-        smallest = λ i low high. w.lowest i low (omega (arith, w.counted));
-      }
-
-  module _ (more : k + 1 < n) where
-    pub onwards_inside : k + 1 < length f
-    onwards_inside = omega (arith, w.counted)
-
-    pub onwards_ranged : AllInRange f
-    onwards_ranged = w.tested.ranged
-
-    module _ {next : ℕ} (is : next ≡ bucket_at (nth f (k + 1)) t 1) where
-      -- the next goes lower
-      pub onwards_lower : next < found → Onwards f n t from (k + 1) next
-      onwards_lower lower =
-          record {
-            tested = w.tested;
-            tick_fits = w.tick_fits;
-            counted = w.counted;
-            from_on = omega (arith, w.from_on);
-            inside = more;
-            found_is = is;
-            lowest = lowest;
-          }
-        where
-          lowest : (i : ℕ) → from ≤ i → i ≤ k + 1 → next ≤ bucket_at (nth f i) t 1
-          lowest i low high =
+    smallest : (i : ℕ) → from ≤ i → i < length f → found ≤ bucket_at (nth f i) t 1
+    smallest i low high =
+        elim (le_or_lt k i) [
+          | inl past ↦
               elim (le_or_lt i k) [
-                | inl read ↦ omega (arith, w.lowest i low read)
-                | inr last ↦ let e : i ≡ k + 1 = omega arith in rw e (le_of_eq is)
+                | inl last ↦ let e : i ≡ k = omega arith in rw e (le_trans stays (le_of_eq is))
+                | inr further ↦ rises i further high
               ]
-
-      -- the next does not, and so none after it
-      pub onwards_stop : found ≤ next → LeastOf f t from (length f) found
-      onwards_stop stays =
-          record {
-            at = k;
-            from_on = w.from_on;
-            before_end = omega (arith, w.inside, w.counted);
-            reached = w.found_is;
-            smallest = smallest;
-          }
-        where
-          rises : (i : ℕ) → k + 1 < i → i < length f → found ≤ bucket_at (nth f i) t 1
-          rises i past inside =
-              omega (
-                arith,
-                then_rises f w.tested.form t k (k + 1) i (omega arith) past inside (omega (arith, w.found_is)),
-              )
-
-          smallest : (i : ℕ) → from ≤ i → i < length f → found ≤ bucket_at (nth f i) t 1
-          smallest i low high =
-              elim (le_or_lt i k) [
-                | inl read ↦ w.lowest i low read
-                | inr past ↦
-                    elim (le_or_lt i (k + 1)) [
-                      | inl last ↦ let e : i ≡ k + 1 = omega arith in rw e (le_trans stays (le_of_eq is))
-                      | inr further ↦ rises i further high
-                    ]
-              ]
-
-pub ruleset onwards =
-    (onwards_start, onwards_next_fits, onwards_end, onwards_inside, onwards_ranged, onwards_lower, onwards_stop)
+          | inr read ↦ w.lowest i low read
+        ]
 
 -- ---- Walking back from a bucket.
 
 -- Of the buckets before `end`, those from k on were read, and the one numbered k has the least value of them.
 pub record Backwards (f : List Bucket) (t end k found : ℕ) : Type 0 where
-  pub tested : Tested f
-  pub tick_fits : t ≤ 2 ^ 40
-  pub end_inside : end ≤ length f
   pub before_end : k < end
   pub found_is : found ≡ bucket_at (nth f k) t 1
   pub lowest : (i : ℕ) → k ≤ i → i < end → found ≤ bucket_at (nth f i) t 1
 
--- the first is the last before the end
-module _ (f : List Bucket) {end : ℕ} (tested : Tested f) (some : 0 < end) (end_inside : end ≤ length f) where
-  pub backwards_inside : end - 1 < length f
-  backwards_inside = omega arith
+-- where the next bucket is not lower, none before it is
+pub backwards_stop :
+    {f : List Bucket} {t end k found next : ℕ} → NormalForm f → end ≤ length f → Backwards f t end k found → 0 < k
+    → next ≡ bucket_at (nth f (k - 1)) t 1 → found ≤ next → LeastOf f t 0 end found
+backwards_stop {f} {t} {end} {k} {found} form end_inside w more is stays =
+    record {
+      at = k;
+      from_on = omega arith;
+      before_end = w.before_end;
+      reached = w.found_is;
+      smallest = smallest;
+    }
+  where
+    fell : (i : ℕ) → i < k - 1 → found ≤ bucket_at (nth f i) t 1
+    fell i past =
+        omega (
+          arith,
+          first_fell f form t i (k - 1) k past (omega arith) (omega (arith, w.before_end, end_inside)) (omega (arith, w.found_is)),
+        )
 
-  pub backwards_ranged : AllInRange f
-  backwards_ranged = tested.ranged
-
-  pub backwards_start : {t found : ℕ} → t ≤ 2 ^ 40 → found ≡ bucket_at (nth f (end - 1)) t 1 → Backwards f t end (end - 1) found
-  backwards_start {t} {found} small is =
-      record {
-        tested = tested;
-        tick_fits = small;
-        end_inside = end_inside;
-        before_end = omega arith;
-        found_is = is;
-        lowest = λ i low high. one i (omega arith);
-      }
-    where
-      one : (i : ℕ) → i ≡ end - 1 → found ≤ bucket_at (nth f i) t 1
-      one i e = rw e (le_of_eq is)
-
-module _ {f : List Bucket} {t end k found : ℕ} (w : Backwards f t end k found) where
-  -- no bucket is left
-  pub backwards_end : k ≤ 0 → LeastOf f t 0 end found
-  backwards_end none =
-      record {
-        at = k;
-        from_on = omega arith;
-        before_end = w.before_end;
-        reached = w.found_is;
-        smallest = λ i low high. w.lowest i (omega arith) high;
-      }
-
-  module _ (more : 0 < k) where
-    pub backwards_next_inside : k - 1 < length f
-    backwards_next_inside = omega (arith, w.before_end, w.end_inside)
-
-    pub backwards_next_ranged : AllInRange f
-    backwards_next_ranged = w.tested.ranged
-
-    module _ {next : ℕ} (is : next ≡ bucket_at (nth f (k - 1)) t 1) where
-      -- the next goes lower
-      pub backwards_lower : next < found → Backwards f t end (k - 1) next
-      backwards_lower lower =
-          record {
-            tested = w.tested;
-            tick_fits = w.tick_fits;
-            end_inside = w.end_inside;
-            before_end = omega (arith, w.before_end);
-            found_is = is;
-            lowest = lowest;
-          }
-        where
-          lowest : (i : ℕ) → k - 1 ≤ i → i < end → next ≤ bucket_at (nth f i) t 1
-          lowest i low high =
-              elim (le_or_lt k i) [
-                | inl read ↦ omega (arith, w.lowest i read high)
-                | inr last ↦ let e : i ≡ k - 1 = omega arith in rw e (le_of_eq is)
+    smallest : (i : ℕ) → 0 ≤ i → i < end → found ≤ bucket_at (nth f i) t 1
+    smallest i low high =
+        elim (le_or_lt k i) [
+          | inl read ↦ w.lowest i read high
+          | inr past ↦
+              elim (le_or_lt (k - 1) i) [
+                | inl last ↦ let e : i ≡ k - 1 = omega arith in rw e (le_trans stays (le_of_eq is))
+                | inr further ↦ fell i further
               ]
-
-      -- the next does not, and so none before it
-      pub backwards_stop : found ≤ next → LeastOf f t 0 end found
-      backwards_stop stays =
-          record {
-            at = k;
-            from_on = omega arith;
-            before_end = w.before_end;
-            reached = w.found_is;
-            smallest = smallest;
-          }
-        where
-          fell : (i : ℕ) → i < k - 1 → found ≤ bucket_at (nth f i) t 1
-          fell i past =
-              omega (
-                arith,
-                first_fell f w.tested.form t i (k - 1) k past (omega arith) (omega (arith, w.before_end, w.end_inside))
-                    (omega (arith, w.found_is)),
-              )
-
-          smallest : (i : ℕ) → 0 ≤ i → i < end → found ≤ bucket_at (nth f i) t 1
-          smallest i low high =
-              elim (le_or_lt k i) [
-                | inl read ↦ w.lowest i read high
-                | inr past ↦
-                    elim (le_or_lt (k - 1) i) [
-                      | inl last ↦ let e : i ≡ k - 1 = omega arith in rw e (le_trans stays (le_of_eq is))
-                      | inr further ↦ fell i further
-                    ]
-              ]
-
-pub ruleset backwards = (
-  backwards_inside,
-  backwards_ranged,
-  backwards_start,
-  backwards_end,
-  backwards_next_inside,
-  backwards_next_ranged,
-  backwards_lower,
-  backwards_stop,
-)
+        ]
 
 -- ---- The whole curve.
 
@@ -285,3 +149,52 @@ least_of_all f {t} {v} l = sym (value_unique f t 1 below (at_inside f l.at _ l.b
     below j m =
         let at = inside_at f _ m in
         le_trans (l.smallest at.0 (omega arith) at.1) (le_of_eq (sym (same_bucket_at t 1 at.2)))
+
+-- ---- A curve that carries nothing.
+
+module _ (f : List Bucket) (form : NormalForm f) {last_rate last_burst : ℕ} (is : bucket last_rate last_burst ≡ last f) where
+  -- a curve that carries nothing by tick 1 has the last bucket (0, 0)
+  nothing_last : reads f 1 ≡ 0 → (last_rate ≡ 0) × (last_burst ≡ 0)
+  unfolding reads bucket_at
+  nothing_last none =
+      let r = value_reached f 1 1 form.some in
+      let at = inside_at f (bucket 0 0) r.inside in
+      let flat : last_rate ≤ 0 = omega (arith, r.value_is, last_slowest f form.falling r.inside, same_rate is) in
+      let end : at.0 + 1 ≡ length f =
+      elim (le_or_lt (length f) (at.0 + 1)) [
+        | inl e ↦ omega (arith, at.1)
+        | inr more ↦
+            absurd
+            (omega (
+              arith,
+              r.value_is,
+              same_rate at.2,
+              falling_at f form.falling (bucket 0 0) at.0 (length f - 1) (omega arith) (omega arith),
+            ))
+      ]
+      in
+      let e : bucket last_rate last_burst ≡ r.bucket = is ∙ sym (last_numbered f at.0 end) ∙ sym at.2 in
+      (omega arith, omega (arith, r.value_is, ap (λ (j : Bucket). j.burst) e))
+
+  -- where the last rate is not 0, it carries something,
+  pub carries_rate : (last_rate ≡ 0 → ⊥) → Tells (reads f 1 ≡ 0) (nat_eq last_rate 0)
+  carries_rate some =
+      rw (ne_eqb last_rate 0 some)
+      (record { yes_means = λ t. absurd (true≢false (sym t)); no_means = λ t none. some (nothing_last none).0 })
+
+  -- and where it is, the last burst tells
+  pub carries_burst : last_rate ≡ 0 → Tells (reads f 1 ≡ 0) (nat_eq last_burst 0)
+  unfolding reads bucket_at
+  carries_burst flat =
+      record {
+        yes_means =
+            λ t.
+            omega (
+              arith,
+              eqb-true last_burst 0 t,
+              value_least f 1 1 (last_inside f form.some),
+              same_rate is,
+              ap (λ (j : Bucket). j.burst) is,
+            );
+        no_means = λ t none. true≢false (sym (eq-eqb last_burst 0 (nothing_last none).1) ∙ t);
+      }

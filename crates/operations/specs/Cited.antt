@@ -1,17 +1,16 @@
 -- What the contracts of this crate's own functions cite, beside the definitions of the crate meaning.
 -- Assumes nothing.
 use Rattle.std.specs.Prelude.{◌≡◌, Bool, true, false, cond, List, [], ◌∷◌, map, ℕ, ◌+◌, ◌-◌, ◌/◌, ◌≤◌, ◌<◌, leb, ltb, length, drop}
-use Rattle.meaning.specs.Curve.{Bucket, curve_of, bucket_at, NormalForm, added}
+use Rattle.meaning.specs.Curve.{Bucket, bucket_at, NormalForm, added}
 use Rattle.meaning.specs.Computed.{merged_sum}
-use Rattle.meaning.specs.Refusal.{AllInRange, Verdict}
-use Rattle.meaning.specs.Server.{no_server, Excess, later, last, port}
-use Rattle.meaning.specs.ServerQuestions.{ServerInRange, port_lines}
-use Rattle.checks.specs.Cited.{nth}
-use Rattle.servers.specs.Cited.{server_of}
+use Rattle.meaning.specs.Refusal.{AllInRange}
+use Rattle.meaning.specs.Server.{later, last, port}
+use Rattle.meaning.specs.ServerQuestions.{ServerInRange}
+use Rattle.checks.specs.Cited.{bucket_of, nth}
 use Rattle.operations.specs.declared.adding.Step.{Step}
 use Rattle.operations.specs.declared.crossings.Crossing.{Crossing}
 use Rattle.operations.specs.declared.gather.Next.{Next}
-use Rattle.operations.specs.declared.hops.Hop.{Hop}
+use Rattle.operations.specs.declared.gather.Next.TheVariants.{First, Second}
 
 -- The bucket of two numbers.
 abbrev pub bucket : ℕ → ℕ → Bucket
@@ -36,18 +35,6 @@ pub record LeastOf (f : List Bucket) (t from end least : ℕ) : Type 0 where
   pub before_end : at < end
   pub reached : least ≡ bucket_at (nth f at) t 1
   pub smallest : (k : ℕ) → from ≤ k → k < end → least ≤ bucket_at (nth f k) t 1
-
--- The number, from 0, of the first bucket of rate at most R: those before it are steeper.
-pub record FirstSlow (f : List Bucket) (rate first : ℕ) : Type 0 where
-  pub inside : first < length f
-  pub steeper : (k : ℕ) → k < first → rate < (nth f k).rate
-  pub slow : (nth f first).rate ≤ rate
-
--- A curve and a server tested: the code; and where it is 0, the first bucket of rate at most R, and M.
-pub record Opened (f : List ℕ) (rate latency code first m : ℕ) : Type 0 where
-  pub verdict : Verdict (port_lines f (port rate latency)) code
-  pub first_is : code ≡ 0 → FirstSlow (curve_of f) rate first
-  pub excess_is : code ≡ 0 → Excess (curve_of f) rate m
 
 -- The crossing of the bucket numbered k, from 0, with the one before it, as rise over fall.
 pub record CrossingAt (f : List Bucket) (k : ℕ) (c : Crossing) : Type 0 where
@@ -74,15 +61,9 @@ unfoldable pub line_and_later : List Bucket → ℕ → ℕ → ℕ → ℕ → 
 line_and_later f first rate burst latency = bucket rate burst ∷ map (later latency) (drop first f)
 
 -- The next bucket of two lists merged is the first of the one list or of the other, and the rest are merged behind it.
-pub record NextOf (f g : List Bucket) (next : Next) : Type 0 where
-  pub first_list :
-      next.first ≡ true → (1 ≤ length f) × (merged f g ≡ bucket next.rate next.burst ∷ merged (drop 1 f) g)
-  pub second_list :
-      next.first ≡ false → (1 ≤ length g) × (merged f g ≡ bucket next.rate next.burst ∷ merged f (drop 1 g))
-
--- 1 where the one time is no later than the other, else 0.
-abbrev pub not_after : ℕ → ℕ → ℕ
-not_after time other = cond (leb time other) 1 0
+abbrev pub NextOf : List Bucket → List Bucket → Next → Type 0
+NextOf f g (First k) = (1 ≤ length f) × (merged f g ≡ bucket_of k ∷ merged (drop 1 f) g)
+NextOf f g (Second k) = (1 ≤ length g) × (merged f g ≡ bucket_of k ∷ merged f (drop 1 g))
 
 -- When a curve goes over from the bucket numbered i, from 0, to the next: at their crossing; where it is the last, after every time,
 -- as 1/0.
@@ -90,10 +71,8 @@ pub record TurnAfter (f : List Bucket) (i : ℕ) (c : Crossing) : Type 0 where
   pub next : i + 1 < length f → CrossingAt f (i + 1) c
   pub last : length f ≤ i + 1 → (c.rise ≡ 1) × (c.fall ≡ 0)
 
--- Two curves that no line refuses, and of each the bucket at hand, numbered i and j from 0; these are not both the last.
+-- Of two curves the buckets at hand, numbered i and j from 0; these are not both the last.
 pub record AtHand (f g : List Bucket) (i j : ℕ) : Type 0 where
-  pub first : Tested f
-  pub second : Tested g
   pub first_inside : i < length f
   pub second_inside : j < length g
   pub not_last : i + j + 2 < length f + length g
@@ -103,11 +82,3 @@ pub record StepOf (f g : List Bucket) (i j : ℕ) (step : Step) : Type 0 where
   pub inside : (i + step.first < length f) × (j + step.second < length g)
   pub next :
       merged_sum (drop i f) (drop j g) ≡ added (nth f i) (nth g j) ∷ merged_sum (drop (i + step.first) f) (drop (j + step.second) g)
-
--- A hop that is refused, with its number: no count, no figures and no server.
-pub record NoHop (code : ℕ) (hop : Hop) : Type 0 where
-  pub code_is : hop.code ≡ code
-  pub no_count : hop.count ≡ 0
-  pub no_backlog : hop.backlog ≡ 0
-  pub no_delay : hop.delay ≡ 0
-  pub no_server_there : server_of hop.server ≡ no_server

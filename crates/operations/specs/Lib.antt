@@ -1,1 +1,3 @@
 pub mod Cited
+pub mod Walks
+pub mod Told

@@ -1,41 +1,35 @@
 // A curve at a pure delay, which serves nothing up to its latency and without limit after: backlog and delay there, and the curve
 // behind. It has no rate to share, so that nothing of it is left beside a cross curve.
 ghost use Rattle.std.specs.Prelude.{map, ◌<◌, ◌^◌};
-ghost use Rattle.meaning.specs.Curve.{flat, curve_of};
+ghost use Rattle.meaning.specs.Curve.{flat};
 ghost use Rattle.meaning.specs.Server.{pure_delay, later, Delay};
-ghost use Rattle.meaning.specs.Refusal.{PartOutcome};
-ghost use Rattle.meaning.specs.ServerQuestions.{BacklogOutcome, DelayOutcome, ResidualOutcome, HopPartOutcome};
-ghost use Rattle.servers.specs.Cited.{server_of};
+ghost use Rattle.meaning.specs.ServerQuestions.{BacklogOutcome, DelayOutcome, ResidualOutcome};
+ghost use Rattle.checks.specs.Held.{curve_held};
+ghost use Rattle.checks.specs.Table.{code_of, told};
+ghost use Rattle.servers.specs.Cited.{server_told};
 ghost use Rattle.settle.specs.Cited.{settling};
-ghost use Rattle.operations.specs.Cited.{Tested};
+ghost use Rattle.settle.specs.Parts.{Answers};
+ghost use Rattle.operations.specs.Told.{HopTold};
 
-use crate::bounds::carries_nothing;
 use crate::hops::Hop;
-use crate::lowest::least_from;
-use crate::value::Figure;
-use crate::{gather, hops, refusals};
-use checks::limits;
-use servers::ServerAnswer;
-use settle::{Answer, settle};
+use crate::lowest::{carries_nothing, least_from};
+use crate::{gather, refusals};
+use arrayvec::ArrayVec;
+use checks::{Bucket, Curve, Refusal};
+use servers::Server;
+use settle::{Part, settle};
 
 // All that has come by the latency waits: the curve's value there, at 0 its burst.
-pub(crate) fn backlog(curve: &[u64], latency: u64) -> Figure
-    ensures { BacklogOutcome curve.now (pure_delay latency) result.code result.figure }
+pub(crate) fn backlog(curve: &[u64], latency: u64) -> Result<u64, Refusal>
+    ensures { BacklogOutcome curve.now (pure_delay latency) (code_of result) (told result) }
 {
-    let code = refusals::at_delay(curve, latency);
-    if code != 0 {
-        return Figure { code, figure: 0 };
-    }
-    Figure {
-        code: 0,
-        figure: least_from(curve, 0, latency),
-    }
+    let curve = refusals::at_delay(curve, latency)?;
+    Ok(least_from(curve, 0, latency))
 }
 
 // How long it holds a curve: for its latency, and a curve that carries nothing for no time.
-fn held(curve: &[u64], latency: u64) -> u64
-    requires { Tested (curve_of curve.now) }
-    ensures { Delay (curve_of curve.now) (pure_delay latency) result }
+fn held(curve: Curve<'_>, latency: u64) -> u64
+    ensures { Delay (curve_held curve.entry) (pure_delay latency) result }
 {
     if carries_nothing(curve) {
         return 0;
@@ -44,56 +38,52 @@ fn held(curve: &[u64], latency: u64) -> u64
 }
 
 // The delay there.
-pub(crate) fn delay(curve: &[u64], latency: u64) -> Figure
-    ensures { DelayOutcome curve.now (pure_delay latency) result.code result.figure }
+pub(crate) fn delay(curve: &[u64], latency: u64) -> Result<u64, Refusal>
+    ensures { DelayOutcome curve.now (pure_delay latency) (code_of result) (told result) }
 {
-    let code = refusals::at_delay(curve, latency);
-    if code != 0 {
-        return Figure { code, figure: 0 };
-    }
-    Figure {
-        code: 0,
-        figure: held(curve, latency),
-    }
+    let curve = refusals::at_delay(curve, latency)?;
+    Ok(held(curve, latency))
 }
 
 // Beside a cross curve it is RANGE, unless the curve is refused with a smaller number.
-pub(crate) fn residual(latency: u64, cross: &[u64]) -> ServerAnswer
-    ensures { ResidualOutcome cross.now (pure_delay latency) result.code (server_of result.server) }
+pub(crate) fn residual(latency: u64, cross: &[u64]) -> Result<Server, Refusal>
+    ensures { ResidualOutcome cross.now (pure_delay latency) (code_of result) (server_told result) }
 {
-    servers::refused(checks::earlier(checks::curve(cross), limits::RANGE))
+    let refused: Result<(), Refusal> = Err(Refusal::Range);
+    checks::both(checks::curve(cross), refused)?;
+    Err(Refusal::Range)
 }
 
 // The curve's buckets, each read `latency` ticks later, in normal form. (The first stands where a rate-latency server has its line.)
-fn settled(curve: &[u64], latency: u64, table: &mut [u64], at: usize, room: usize) -> Answer
-    requires tested { Tested (curve_of curve.now) }
-    requires latency_fits { latency < 2 ^ 20 }
-    ensures { PartOutcome (settling (flat (map (later latency) (curve_of curve.now)))) at room table.old table.new result.code result.count }
+fn behind(curve: Curve<'_>, latency: u64, table: &mut [u64], part: Part) -> Result<usize, Refusal>
+    requires { latency < 2 ^ 20 }
+    ensures { Answers (settling (flat (map (later latency) (curve_held curve.entry)))) part table.old table.new result }
 {
-    let mut raw = [0u64; 130];
-    let first = checks::bucket_at(curve, 0);
-    let burst = first.burst + first.rate * latency;
-    let end = gather::line_and_later(curve, 1, first.rate, burst, latency, &mut raw);
-    settle(&raw[..end], table, at, room)
+    let first = curve.bucket(0);
+    let line = Bucket {
+        rate: first.rate,
+        burst: first.burst + first.rate * latency,
+    };
+    let mut raw = ArrayVec::new();
+    gather::line_and_later(curve, 1, line, latency, &mut raw);
+    settle(raw.as_slice(), table, part)
 }
 
 // A hop: the curve that leaves the pure delay, with backlog and delay; tested once.
-pub(crate) fn pass_in(curve: &[u64], latency: u64, table: &mut [u64], at: usize, room: usize) -> Hop
-    ensures { HopPartOutcome curve.now (pure_delay latency) at room table.old table.new result.code result.count result.backlog result.delay (server_of result.server) }
+pub(crate) fn pass(
+    curve: &[u64],
+    latency: u64,
+    table: &mut [u64],
+    part: Part,
+) -> Result<Hop, Refusal>
+    ensures { HopTold curve.now (pure_delay latency) part table.old table.new result }
 {
-    let code = refusals::at_delay(curve, latency);
-    if code != 0 {
-        return hops::refused(code);
-    }
-    let answer = settled(curve, latency, table, at, room);
-    if answer.code != 0 {
-        return hops::refused(answer.code);
-    }
-    Hop {
-        code: 0,
-        count: answer.count,
+    let curve = refusals::at_delay(curve, latency)?;
+    let count = behind(curve, latency, table, part)?;
+    Ok(Hop {
+        count,
         backlog: least_from(curve, 0, latency),
         delay: held(curve, latency),
         server: servers::pure_delay(latency),
-    }
+    })
 }

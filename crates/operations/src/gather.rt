@@ -1,106 +1,84 @@
-// Raw buckets gathered in local memory, from the start of a list on: those of two curves merged, or those of a curve behind a
-// server.
-ghost use Rattle.std.specs.Prelude.{◌≡◌, ◌+◌, ◌≤◌, ◌<◌, ◌^◌, length, drop};
-ghost use Rattle.meaning.specs.Curve.{flat, curve_of};
-ghost use Rattle.meaning.specs.Refusal.{over};
-ghost use Rattle.operations.specs.Cited.{Tested, merged, NextOf, line_and_later};
+// Raw buckets gathered in local memory: those of two curves merged, or those of a curve behind a server.
+ghost use Rattle.std.specs.Prelude.{◌≡◌, ◌+◌, ◌≤◌, ◌<◌, ◌^◌, [], ◌++◌, length, drop};
+ghost use Rattle.meaning.specs.Curve.{flat};
+ghost use Rattle.checks.specs.Cited.{bucket_of};
+ghost use Rattle.checks.specs.Held.{curve_held};
+ghost use Rattle.operations.specs.Cited.{merged, NextOf, line_and_later};
 
-// A bucket, and whether it is the first curve's.
+use arrayvec::ArrayVec;
+use checks::{Bucket, Curve};
+
+// The next bucket of two curves that are merged: the first one's or the second one's.
 #[derive(Clone, Copy)]
-struct Next {
-    first: bool,
-    rate: u64,
-    burst: u64,
+enum Next {
+    First(Bucket),
+    Second(Bucket),
 }
 
 // The next bucket of two curves merged by falling rates, where i and j of them are passed.
-fn next_of(f: &[u64], g: &[u64], i: usize, j: usize) -> Next
-    requires some_left { i + j < length (curve_of f.now) + length (curve_of g.now) }
-    requires inside { (i ≤ length (curve_of f.now)) × (j ≤ length (curve_of g.now)) }
-    ensures { NextOf (drop i (curve_of f.now)) (drop j (curve_of g.now)) result }
+fn next_of(f: Curve<'_>, g: Curve<'_>, i: usize, j: usize) -> Next
+    requires some_left { i + j < length (curve_held f) + length (curve_held g) }
+    requires inside { (i ≤ length (curve_held f)) × (j ≤ length (curve_held g)) }
+    ensures { NextOf (drop i (curve_held f.entry)) (drop j (curve_held g.entry)) result }
 {
-    let a = checks::bucket_at(f, i);
-    let of_first = Next {
-        first: true,
-        rate: a.rate,
-        burst: a.burst,
-    };
-    if checks::bucket_count(g) <= j {
-        return of_first;
+    let a = f.bucket(i);
+    let b = g.bucket(j);
+    if g.count() <= j {
+        return Next::First(a);
     }
-    let b = checks::bucket_at(g, j);
-    let of_second = Next {
-        first: false,
-        rate: b.rate,
-        burst: b.burst,
-    };
-    if checks::bucket_count(f) <= i {
-        return of_second;
+    if f.count() <= i {
+        return Next::Second(b);
     }
     if b.rate < a.rate {
-        return of_first;
+        return Next::First(a);
     }
     if a.rate < b.rate {
-        return of_second;
+        return Next::Second(b);
     }
     if a.burst <= b.burst {
-        return of_first;
+        return Next::First(a);
     }
-    of_second
+    Next::Second(b)
 }
 
-// The buckets of two curves, merged by falling rates, written to the start of a list. Answers the place after them.
-pub(crate) fn merge(f: &[u64], g: &[u64], out: &mut [u64]) -> usize
-    requires few { (length (curve_of f.now) ≤ 64) × (length (curve_of g.now) ≤ 64) }
-    requires room { 256 ≤ length out.old }
-    ensures place { result ≡ length (flat (merged (curve_of f.now) (curve_of g.now))) }
-    ensures written { out.new ≡ over (flat (merged (curve_of f.now) (curve_of g.now))) out.old }
+// The buckets of two curves, merged by falling rates, put into an empty list.
+pub(crate) fn merge(f: Curve<'_>, g: Curve<'_>, out: &mut ArrayVec<u64, 256>)
+    requires { out.old.items ≡ [] }
+    ensures { out.new.items ≡ flat (merged (curve_held f.entry) (curve_held g.entry)) }
 {
-    let count = checks::bucket_count(f) + checks::bucket_count(g);
     let mut i = 0;
-    let mut j = 0;
-    while i + j < count {
-        let next = next_of(f, g, i, j);
-        let at = 2 * (i + j);
-        out[at] = next.rate;
-        out[at + 1] = next.burst;
-        if next.first {
-            i += 1;
-        } else {
-            j += 1;
-        }
+    for passed in 0..f.count() + g.count() {
+        let bucket = match next_of(f, g, i, passed - i) {
+            Next::First(bucket) => {
+                i += 1;
+                bucket
+            }
+            Next::Second(bucket) => bucket,
+        };
+        out.push(bucket.rate);
+        out.push(bucket.burst);
     }
-    2 * count
 }
 
-// The raw buckets of a curve behind a server, written to the start of a list: the line (rate, burst), then (r, b + r * latency) for
-// each bucket from `first` on, so that rates fall. Answers the place after them.
+// The raw buckets of a curve behind a server, put into an empty list: the line, then (r, b + r * latency) for each bucket from `first`
+// on, so that rates fall.
 pub(crate) fn line_and_later(
-    curve: &[u64],
+    curve: Curve<'_>,
     first: usize,
-    rate: u64,
-    burst: u64,
+    line: Bucket,
     latency: u64,
-    out: &mut [u64],
-) -> usize
-    requires tested { Tested (curve_of curve.now) }
-    requires first_in_bounds { first ≤ length (curve_of curve.now) }
+    out: &mut ArrayVec<u64, 130>,
+)
+    requires first_in_bounds { first ≤ length (curve_held curve) }
     requires latency_fits { latency < 2 ^ 20 }
-    requires room { 130 ≤ length out.old }
-    ensures place { result ≡ length (flat (line_and_later (curve_of curve.now) first rate burst latency)) }
-    ensures written { out.new ≡ over (flat (line_and_later (curve_of curve.now) first rate burst latency)) out.old }
+    requires empty { out.old.items ≡ [] }
+    ensures { out.new.items ≡ flat (line_and_later (curve_held curve.entry) first line.rate line.burst latency) }
 {
-    let count = checks::bucket_count(curve) - first + 1;
-    out[0] = rate;
-    out[1] = burst;
-    let mut k = 1;
-    while k < count {
-        let here = checks::bucket_at(curve, first + k - 1);
-        let later = here.burst + here.rate * latency;
-        let at = 2 * k;
-        out[at] = here.rate;
-        out[at + 1] = later;
-        k += 1;
+    out.push(line.rate);
+    out.push(line.burst);
+    for k in first..curve.count() {
+        let here = curve.bucket(k);
+        out.push(here.rate);
+        out.push(here.burst + here.rate * latency);
     }
-    2 * count
 }

@@ -1,73 +1,42 @@
-// A curve passed through a server: the curve behind, into a lent list or into a part of a larger table, with backlog and delay there.
-ghost use Rattle.meaning.specs.Refusal.{Outcome, PartOutcome};
-ghost use Rattle.meaning.specs.ServerQuestions.{passing, HopOutcome, HopPartOutcome};
+// A curve passed through a server: the curve behind, in a part of a lent table, with backlog and delay there.
+ghost use Rattle.meaning.specs.ServerQuestions.{passing};
 ghost use Rattle.servers.specs.Cited.{server_of};
-ghost use Rattle.operations.specs.Cited.{NoHop};
+ghost use Rattle.settle.specs.Parts.{Answers};
+ghost use Rattle.operations.specs.Told.{HopTold};
 
 use crate::{delayed, rated};
+use checks::Refusal;
 use servers::{Kind, Server};
-use settle::Answer;
+use settle::Part;
 
-// A hop of a route: a code, 0 for an answer; the number of buckets of the curve behind, backlog and delay, each 0 for a refusal; and
-// the server passed, rate-latency (0, 0) for a refusal.
-#[derive(Clone, Copy)]
+// A hop of a route: the number of buckets of the curve behind, backlog and delay, and the server passed.
+#[derive(Clone, Copy, Debug, PartialEq, Eq)]
 pub struct Hop {
-    pub code: u64,
-    pub count: u64,
+    pub count: usize,
     pub backlog: u64,
     pub delay: u64,
     pub server: Server,
 }
 
-// A hop that is refused.
-pub(crate) fn refused(code: u64) -> Hop
-    ensures { NoHop code result }
-{
-    Hop {
-        code,
-        count: 0,
-        backlog: 0,
-        delay: 0,
-        server: servers::rated(0, 0),
-    }
-}
-
 // A hop: the curve that leaves the server, with backlog and delay.
-pub fn pass_in(curve: &[u64], server: Server, table: &mut [u64], at: usize, room: usize) -> Hop
-    ensures { HopPartOutcome curve.now (server_of server) at room table.old table.new result.code result.count result.backlog result.delay (server_of result.server) }
+pub fn pass(curve: &[u64], server: Server, table: &mut [u64], part: Part) -> Result<Hop, Refusal>
+    ensures { HopTold curve.now (server_of server) part table.old table.new result }
 {
-    let kind = server.kind;
-    match kind {
-        Kind::RateLatency { rate, latency } => {
-            rated::pass_in(curve, rate, latency, table, at, room)
-        }
-        Kind::PureDelay { latency } => delayed::pass_in(curve, latency, table, at, room),
+    match server.kind {
+        Kind::RateLatency { rate, latency } => rated::pass(curve, rate, latency, table, part),
+        Kind::PureDelay { latency } => delayed::pass(curve, latency, table, part),
     }
-}
-
-// The same into a whole list.
-pub fn pass(curve: &[u64], server: Server, out: &mut [u64]) -> Hop
-    ensures { HopOutcome curve.now (server_of server) out.old out.new result.code result.count result.backlog result.delay (server_of result.server) }
-{
-    let room = out.len();
-    pass_in(curve, server, out, 0, room)
 }
 
 // The curve behind a server, alone. (The figures of the hop cost little beside it.)
-pub fn behind_in(curve: &[u64], server: Server, table: &mut [u64], at: usize, room: usize) -> Answer
-    ensures { PartOutcome (passing curve.now (server_of server)) at room table.old table.new result.code result.count }
+pub fn behind(
+    curve: &[u64],
+    server: Server,
+    table: &mut [u64],
+    part: Part,
+) -> Result<usize, Refusal>
+    ensures { Answers (passing curve.now (server_of server)) part table.old table.new result }
 {
-    let hop = pass_in(curve, server, table, at, room);
-    Answer {
-        code: hop.code,
-        count: hop.count,
-    }
-}
-
-// The same into a whole list.
-pub fn behind(curve: &[u64], server: Server, out: &mut [u64]) -> Answer
-    ensures { Outcome (passing curve.now (server_of server)) out.old out.new result.code result.count }
-{
-    let room = out.len();
-    behind_in(curve, server, out, 0, room)
+    let hop = pass(curve, server, table, part)?;
+    Ok(hop.count)
 }

@@ -1,6 +1,6 @@
 -- What the contracts of this crate's own functions cite, beside the definitions of the crate meaning.
 -- Assumes nothing.
-use Rattle.std.specs.Prelude.{◌≡◌, Bool, true, false, map, List, [], ◌∷◌, ◌++◌, ℕ, ◌^◌, ◌≤◌, ◌<◌, length, take, drop, Option, Some, MatchOption, Result, IsOk, IsErr}
+use Rattle.std.specs.Prelude.{◌≡◌, Bool, true, false, cond, ltb, map, List, [], ◌∷◌, ◌++◌, ℕ, ◌-◌, ◌*◌, ◌^◌, ◌≤◌, ◌<◌, length, take, drop, Option, Some, MatchOption, Result, IsOk, IsErr}
 use Rattle.meaning.specs.Curve.{Bucket, buckets, NormalOf}
 use Rattle.meaning.specs.Computed.{Ends, is_open, normal}
 use Rattle.meaning.specs.Refusal.{LIST, RANGE, ◌when◌, ◌or◌, Within, AllWithin, Uneven, Question, over, part}
@@ -35,6 +35,18 @@ between low high = record { low = low.ticks; low_over = low.over; high = high.ti
 
 abbrev pub ends_of : held_ends.Ends → Ends
 ends_of e = between e.low e.high
+
+-- A steeper bucket comes up to a flatter one at that time.
+pub record Crosses (steeper flatter : Bucket) (t : Time) : Type 0 where
+  pub ticks_are : t.ticks ≡ flatter.burst - steeper.burst
+  pub over_is : t.over ≡ steeper.rate - flatter.rate
+
+-- The ends once only what is after a time is left of them, or only what is before it.
+abbrev pub after : held_ends.Ends → Time → Ends
+after e t = cond (ltb (e.low.ticks * t.over) (t.ticks * e.low.over)) (between t e.high) (ends_of e)
+
+abbrev pub before : held_ends.Ends → Time → Ends
+before e t = cond (ltb (t.ticks * e.high.over) (e.high.ticks * t.over)) (between e.low t) (ends_of e)
 
 -- The ends, if some time is left between them.
 pub record Leaves (e : Ends) (x : Option held_ends.Ends) : Type 0 where

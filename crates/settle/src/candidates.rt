@@ -16,13 +16,11 @@ pub(crate) fn bucket(pair: &[u64; 2]) -> Bucket
 }
 
 // Whether c is not behind k, by falling rates, and by rising bursts among those of one rate.
+#[tactic(auto, unfolding(crate::specs::Order::is_ahead))]
 fn ahead(c: Bucket, k: Bucket) -> bool
     ensures { result ≡ is_ahead (bucket_of c) (bucket_of k) }
 {
-    if k.rate == c.rate {
-        return c.burst <= k.burst;
-    }
-    k.rate < c.rate
+    k.rate < c.rate || (k.rate == c.rate && c.burst <= k.burst)
 }
 
 // Whether the buckets stand in that order.
@@ -33,6 +31,7 @@ fn in_order(pairs: &[[u64; 2]]) -> bool
 }
 
 // Of the bucket found so far and the next one the first by that order; only rates below the bound count.
+#[tactic(auto, using(crate::proofs::Steepest::bettering))]
 fn better(best: Option<Bucket>, next: Bucket, bound: u64) -> Option<Bucket>
     ensures { Keeps bound best next result }
 {

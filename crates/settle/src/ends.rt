@@ -14,9 +14,23 @@ struct Time {
 
 impl Time {
     ghost use Rattle.std.specs.Prelude.{ltb};
+    ghost use Rattle.checks.specs.Cited.{bucket_of};
+    ghost use Rattle.settle.specs.Cited.{Wide, Crosses};
+
+    // When a steeper bucket comes up to a flatter one.
+    fn of_crossing(steeper: Bucket, flatter: Bucket) -> Time
+        requires steeper { Wide (bucket_of steeper) }
+        requires flatter { Wide (bucket_of flatter) }
+        ensures { Crosses (bucket_of steeper) (bucket_of flatter) result }
+    {
+        Time {
+            ticks: flatter.burst.saturating_sub(steeper.burst),
+            over: steeper.rate.saturating_sub(flatter.rate),
+        }
+    }
 
     // Whether it is earlier than another one.
-    fn before(self, other: Time) -> bool
+    fn is_before(self, other: Time) -> bool
         ensures { result ≡ ltb (self.ticks * other.over) (other.ticks * self.over) }
     {
         self.ticks * other.over < other.ticks * self.over
@@ -31,12 +45,14 @@ pub(crate) struct Ends {
     ghost some_time: { low.ticks * high.over < high.ticks * low.over },
 }
 
+#[tactic(auto, using(crate::proofs::Narrowing::narrowing))]
 impl Ends {
     ghost use Rattle.checks.specs.Cited.{bucket_of};
-    ghost use Rattle.meaning.specs.Computed.{every_time, after_steeper, before_flatter, beside_equal, narrowed};
-    ghost use Rattle.settle.specs.Cited.{Wide, between, ends_of, Leaves};
+    ghost use Rattle.meaning.specs.Computed.{every_time, narrowed};
+    ghost use Rattle.settle.specs.Cited.{Wide, between, ends_of, after, before, Leaves};
 
     // Every positive time.
+    #[tactic(auto, unfolding(meaning::specs::Computed::every_time))]
     pub(crate) fn every_time() -> Ends
         ensures { ends_of result ≡ every_time }
     {
@@ -50,66 +66,48 @@ impl Ends {
     fn between(low: Time, high: Time) -> Option<Ends>
         ensures { Leaves (between low high) result }
     {
-        if low.before(high) {
+        if low.is_before(high) {
             return Some(Ends { low, high });
         }
         None
     }
 
-    // The times left once a steeper bucket j is seen, which is above c only past their crossing.
-    fn after_steeper(self, c: Bucket, j: Bucket) -> Option<Ends>
-        requires candidate { Wide (bucket_of c) }
-        requires next { Wide (bucket_of j) }
-        ensures { Leaves (after_steeper (bucket_of c) (bucket_of j) (ends_of self)) result }
+    // Those that are after a time, if there are any.
+    fn after(self, time: Time) -> Option<Ends>
+        ensures { Leaves (after self time) result }
     {
-        let crossing = Time {
-            ticks: c.burst.saturating_sub(j.burst),
-            over: j.rate.saturating_sub(c.rate),
-        };
-        if self.low.before(crossing) {
-            return Ends::between(crossing, self.high);
+        if self.low.is_before(time) {
+            return Ends::between(time, self.high);
         }
         Some(self)
     }
 
-    // The times left once a flatter bucket j is seen, which is above c only up to their crossing.
-    fn before_flatter(self, c: Bucket, j: Bucket) -> Option<Ends>
-        requires candidate { Wide (bucket_of c) }
-        requires next { Wide (bucket_of j) }
-        ensures { Leaves (before_flatter (bucket_of c) (bucket_of j) (ends_of self)) result }
+    // Those that are before a time, if there are any.
+    fn before(self, time: Time) -> Option<Ends>
+        ensures { Leaves (before self time) result }
     {
-        let crossing = Time {
-            ticks: j.burst.saturating_sub(c.burst),
-            over: c.rate.saturating_sub(j.rate),
-        };
-        if crossing.before(self.high) {
-            return Ends::between(self.low, crossing);
+        if time.is_before(self.high) {
+            return Ends::between(self.low, time);
         }
         Some(self)
     }
 
-    // The times left once a bucket j of the same rate is seen, which is never above c, or always.
-    fn beside_equal(self, c: Bucket, j: Bucket) -> Option<Ends>
-        ensures { Leaves (beside_equal (bucket_of c) (bucket_of j) (ends_of self)) result }
-    {
-        if j.burst < c.burst {
-            return None;
-        }
-        Some(self)
-    }
-
-    // The times that are left once bucket j is seen too, if there are any.
+    // The times that are left once bucket j is seen too, if there are any. A steeper one is above c only past their crossing, a
+    // flatter one only up to it, and one of the same rate never, or always.
     pub(crate) fn narrowed(self, c: Bucket, j: Bucket) -> Option<Ends>
         requires candidate { Wide (bucket_of c) }
         requires next { Wide (bucket_of j) }
         ensures { Leaves (narrowed (bucket_of c) (bucket_of j) (ends_of self)) result }
     {
         if c.rate < j.rate {
-            return self.after_steeper(c, j);
+            return self.after(Time::of_crossing(j, c));
         }
         if j.rate < c.rate {
-            return self.before_flatter(c, j);
+            return self.before(Time::of_crossing(c, j));
         }
-        self.beside_equal(c, j)
+        if j.burst < c.burst {
+            return None;
+        }
+        Some(self)
     }
 }

@@ -11,6 +11,7 @@ pub struct Part {
 }
 
 // Copies an answer to the start of a list.
+#[tactic(auto, unfolding(meaning::specs::Refusal::over))]
 fn write(answer: &[u64], out: &mut [u64])
     requires { length answer.now ≤ length out.old }
     ensures { out.new ≡ over answer.now out.old }
@@ -32,6 +33,7 @@ impl Part {
     }
 
     // Writes an answer to its start, if the part has room for it.
+    #[tactic(auto, using(crate::proofs::Placing::placing))]
     pub(crate) fn take(self, answer: &[u64], table: &mut [u64]) -> bool
         requires { 1 ≤ length answer.now }
         ensures { Placed answer.now self.at self.room table.old table.new result }

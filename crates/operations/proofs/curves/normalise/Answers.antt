@@ -1,7 +1,12 @@
--- The whole list is the part that starts at 0. Assumes nothing.
-use Rattle.operations.proofs.Asking.{asking}
-use Rattle.std.proofs.Common.{rules}
+-- The raw list is refused, or what `settle` leaves over it is what is asked. Assumes nothing.
+use Rattle.std.proofs.Common.{refl}
+use Rattle.checks.proofs.Numbers.{number_some, refused_as}
+use Rattle.operations.proofs.Asking.{normalise_refused, normalise_settled}
 use Rattle.operations.proofs.curves.normalise.Goals as goal
 
+pub returns-in_err-raw : goal.returns-in_err-raw
+returns-in_err-raw c =
+    rw (refused_as _ _ c.from_residual.ensures.1) (normalise_refused _ _ _ _ c.in_err-raw.ensures (number_some _))
+
 pub returns : goal.returns
-returns c = search (asking, rules)
+returns c = normalise_settled _ c.in_ok-raw.ensures refl c.settle.ensures

@@ -1,13 +1,9 @@
--- The loop's invariant: the buckets before k are steeper. The measure is how many are left; the last is not steeper.
+-- `first_slow` is the number of the first bucket of rate at most R. The loop's invariant: the buckets before k are steeper.
 -- Assumes nothing.
-use Rattle.operations.proofs.Turning.{Seeking}
-use Rattle.meaning.specs.Curve.{curve_of}
-use Prim.Native.Nat.{◌-◌}
-use lib.ListN.{length}
+use Prim.Native.Nat.{ℕ, ◌<◌}
+use Rattle.checks.specs.Cited.{nth}
+use Rattle.checks.specs.Held.{curve_held}
 use Rattle.operations.proofs.excess.first_slow.Given as goal
 
-abbrev pub invariant-loop-rate : goal.invariant-loop-rate
-invariant-loop-rate l = Seeking (curve_of l.curve) l.rate l.k
-
-abbrev pub decreases-loop-rate : goal.decreases-loop-rate
-decreases-loop-rate l = length (curve_of l.curve) - l.k
+abbrev pub invariant-loop-k : goal.invariant-loop-k
+invariant-loop-k l = (i : ℕ) → i < l.k → l.rate < (nth (curve_held l.curve) i).rate

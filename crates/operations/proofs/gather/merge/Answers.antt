@@ -1,18 +1,40 @@
-use Rattle.operations.proofs.Merging.{merging}
-use Rattle.std.proofs.Common.{rules}
+use Rattle.std.proofs.Common.{arith}
+use Rattle.checks.proofs.Checks.{curve_few}
+use Rattle.operations.proofs.Merging.{merging_room, merging_first, merging_second, merging_end}
+use Rattle.operations.proofs.Pushing.{room_first, room_second}
 use Rattle.operations.proofs.gather.merge.Goals as goal
+use Rattle.operations.proofs.gather.merge.Goals.{in-First, in-Second}
 
-pub loop-i-init : goal.loop-i-init
-loop-i-init c = search (merging, rules)
+pub overflow_add-passed-end : goal.overflow_add-passed-end
+overflow_add-passed-end c =
+    record { fits = omega (arith, c.count.ensures, c.count-2.ensures, curve_few _ c.args.f.clear, curve_few _ c.args.g.clear) }
 
-pub loop-i-preserved-then-next : goal.loop-i-preserved-then-next
-loop-i-preserved-then-next c = search (merging, rules)
+pub push-requires : goal.push-requires
+push-requires c = (
+  omega arith,
+  room_first _ (merging_room c.loop-passed.invariant (curve_few _ c.args.f.clear) (curve_few _ c.args.g.clear)
+      (omega (arith, c.count.ensures, c.count-2.ensures, c.loop-passed-test.true))),
+)
 
-pub loop-i-preserved : goal.loop-i-preserved
-loop-i-preserved c = search (merging, rules)
+pub push-requires-in-loop-passed : goal.push-requires-in-loop-passed
+push-requires-in-loop-passed c = (
+  omega arith,
+  room_second _ (merging_room c.loop-passed.invariant (curve_few _ c.args.f.clear) (curve_few _ c.args.g.clear)
+      (omega (arith, c.count.ensures, c.count-2.ensures, c.loop-passed-test.true))) c.push.ensures.len,
+)
 
-pub returns-clause-place : goal.returns-clause-place
-returns-clause-place c = search (merging, rules)
+pub loop-passed-preserved : goal.loop-passed-preserved
+loop-passed-preserved c =
+    elim c.match-next_of.branch [
+      | in-First w ↦
+          rw w.i-is
+          (merging_first c.loop-passed.invariant c.push.ensures.items c.push-in-loop-passed.ensures.items
+          (rw (← w.bucket-is) at w.in-First.ensures))
+      | in-Second w ↦
+          rw w.i-is
+          (merging_second c.loop-passed.invariant c.push.ensures.items c.push-in-loop-passed.ensures.items
+          (rw (← w.bucket-is) at w.in-Second.ensures))
+    ]
 
-pub returns-clause-written : goal.returns-clause-written
-returns-clause-written c = search (merging, rules)
+pub returns : goal.returns
+returns c = merging_end c.loop-passed.invariant (omega (arith, c.count.ensures, c.count-2.ensures, c.loop-passed-test.false))

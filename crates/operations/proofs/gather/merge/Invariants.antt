@@ -1,13 +1,9 @@
--- `merge` writes the buckets of two curves, merged. The loop's invariant: those passed stand merged at the start of the list, and those
--- left are to be merged behind them. The measure is how many are left.
+-- `merge` pushes the buckets of two curves, merged. The loop's invariant: those passed are pushed, and those left are to be merged behind
+-- them.
 -- Assumes nothing.
+use Rattle.checks.specs.Held.{curve_held}
 use Rattle.operations.proofs.Merging.{Merging}
-use Rattle.meaning.specs.Curve.{curve_of}
-use Prim.Native.Nat.{◌+◌, ◌-◌}
 use Rattle.operations.proofs.gather.merge.Given as goal
 
-abbrev pub invariant-loop-i : goal.invariant-loop-i
-invariant-loop-i l = Merging (curve_of l.f) (curve_of l.g) l.count l.initial.out l.out l.i l.j
-
-abbrev pub decreases-loop-i : goal.decreases-loop-i
-decreases-loop-i l = l.count - (l.i + l.j)
+abbrev pub invariant-loop-passed : goal.invariant-loop-passed
+invariant-loop-passed l = Merging (curve_held l.f) (curve_held l.g) l.passed l.i l.out.items

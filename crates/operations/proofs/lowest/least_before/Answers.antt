@@ -1,6 +1,8 @@
-use Rattle.operations.proofs.Walking.{backwards}
-use Rattle.std.proofs.Common.{rules}
+use Rattle.meaning.proofs.Outcome.Answers.{clear_form}
+use Rattle.operations.proofs.Walking.{backwards_stop}
 use Rattle.operations.proofs.lowest.least_before.Goals as goal
 
 pub returns-then-found-next : goal.returns-then-found-next
-returns-then-found-next c = search (backwards, rules)
+returns-then-found-next c =
+    backwards_stop (clear_form _ c.args.curve.clear) c.requires.end_in_bounds c.loop-k.invariant c.loop-k-test.true
+    c.value_of-next.ensures c.if-found-next.true

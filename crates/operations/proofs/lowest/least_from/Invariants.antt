@@ -1,12 +1,9 @@
--- The loop's invariant: the bucket numbered k has the least value of those read. The measure is how many are left.
+-- `least_from` is the least value at a tick from a bucket on. The loop's invariant: of the buckets read, which are those before k, the
+-- last has the least value.
 -- Assumes nothing.
+use Rattle.checks.specs.Held.{curve_held}
 use Rattle.operations.proofs.Walking.{Onwards}
-use Rattle.meaning.specs.Curve.{curve_of}
-use Prim.Native.Nat.{◌-◌}
 use Rattle.operations.proofs.lowest.least_from.Given as goal
 
 abbrev pub invariant-loop-k : goal.invariant-loop-k
-invariant-loop-k l = Onwards (curve_of l.curve) l.count l.tick l.from l.k l.found
-
-abbrev pub decreases-loop-k : goal.decreases-loop-k
-decreases-loop-k l = l.count - l.k
+invariant-loop-k l = Onwards (curve_held l.curve) l.tick l.from l.k l.found

@@ -1,13 +1,14 @@
 -- An operand is refused, or the backlog is answered. Assumes nothing.
-use Rattle.operations.proofs.Sharing.{port_figures}
-use Rattle.std.proofs.Common.{rules}
+use Rattle.std.proofs.Common.{refl}
+use Rattle.checks.proofs.Numbers.{number_some, refused_as}
+use Rattle.operations.proofs.Sharing.{backlog_refused, backlog_answered}
 use Rattle.operations.proofs.rated.backlog.Goals as goal
 
-pub returns-then-code-ne0 : goal.returns-then-code-ne0
-returns-then-code-ne0 c = search (port_figures, rules)
-
-pub backlog_of-requires-clause-tested_port : goal.backlog_of-requires-clause-tested_port
-backlog_of-requires-clause-tested_port c = search (port_figures, rules)
+pub returns-in_err-port : goal.returns-in_err-port
+returns-in_err-port c =
+    rw (refused_as _ _ c.from_residual.ensures.1) (backlog_refused _ _ c.in_err-port.ensures.verdict (number_some _))
 
 pub returns : goal.returns
-returns c = search (port_figures, rules)
+returns c =
+    backlog_answered _ _ c.in_ok-port.ensures.verdict refl
+    (rw (c.in_ok-port.ensures.its_curve, c.in_ok-port.ensures.its_server) at c.backlog.ensures)

@@ -1,11 +1,14 @@
 -- `burst` gives the refusal of its curve, or the first bucket's burst, which is the smallest.
 -- Assumes nothing.
-use Rattle.operations.proofs.Valuing.{burst_outcomes}
-use Rattle.std.proofs.Common.{rules}
+use Rattle.std.proofs.Common.{refl}
+use Rattle.checks.proofs.Numbers.{number_some, refused_as}
+use Rattle.operations.proofs.Valuing.{burst_refused, burst_answered}
 use Rattle.operations.proofs.value.burst.Goals as goal
 
-pub returns-then-code-ne0 : goal.returns-then-code-ne0
-returns-then-code-ne0 c = search (burst_outcomes, rules)
+pub returns-in_err-curve : goal.returns-in_err-curve
+returns-in_err-curve c =
+    rw (refused_as _ _ c.from_residual.ensures.1) (burst_refused _ c.in_err-curve.ensures.verdict (number_some _))
 
 pub returns : goal.returns
-returns c = search (burst_outcomes, rules)
+returns c =
+    burst_answered _ c.in_ok-curve.ensures.verdict refl (rw c.in_ok-curve.ensures.its_list at c.bucket.ensures)
