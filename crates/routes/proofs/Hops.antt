@@ -105,10 +105,10 @@ whole_hop {f} {s = s} start end o = record { curve = whole_list (passing f s) (r
 -- so what the hop answers is what comes of the server that stands there
 pub hop_passed :
     (input : List ℕ) (at : ℕ) {s : Server} → ServerRead (take (length input - at) (drop at input)) 0 s
-    → {f lent after : List ℕ} {part : Part} → part.at ≡ 0 → part.room ≡ length lent → length lent ≡ 128
+    → (f lent after : List ℕ) {part : Part} → part.at ≡ 0 → part.room ≡ length lent → length lent ≡ 128
     → (answer : Result Hop Refusal) → of_hops.HopTold f s part lent after answer → HopTold (drop at input) f after answer
-hop_passed input at read start end long (Ok hop) o = hop_asked input at read refl long (whole_hop start end o)
-hop_passed input at read start end long (Err r) o = hop_asked input at read refl long (whole_hop start end o)
+hop_passed input at read f lent after start end long (Ok hop) o = hop_asked input at read refl long (whole_hop start end o)
+hop_passed input at read f lent after start end long (Err r) o = hop_asked input at read refl long (whole_hop start end o)
 
 -- ---- The hop with the servers before it.
 

@@ -26,6 +26,11 @@ use Rattle.meaning.proofs.Profile.Files.{held_few}
 use Rattle.meaning.proofs.Route.Line.{JoinedInRange, sofar_in_range}
 use Rattle.meaning.proofs.Route.Text.{route_length}
 use Rattle.meaning.proofs.Route.Steps.{Going, ServerDue, bytes_there, none_yet, going_start, going_printed, going_over, going_stops, going_hop, going_answered}
+use Rattle.std.specs.Prelude.{Result, Ok, Err}
+use Rattle.std.specs.Result.{IsOk}
+use Rattle.checks.specs.Table.{code_of}
+use Rattle.checks.specs.declared.refusal.Refusal.{Refusal}
+use Rattle.checks.proofs.Numbers.{number_some}
 use Rattle.routes.specs.Cited.{Room, figures, Due, joined_after, Stepping, Stepped, BehindProfile, Starts}
 
 -- ---- The end of the text.
@@ -217,6 +222,13 @@ module _
                       curve_long = h.long;
                       next_long = h.long;
                     }
+
+-- ---- Figures that are answered.
+
+-- an answer without a code is one
+pub answered_ok : {A : Type 0} (answer : Result A Refusal) → code_of answer ≡ 0 → IsOk answer
+answered_ok (Ok x) e = refl
+answered_ok (Err r) e = absurd (number_some r e)
 
 pub ruleset walking = (
   walk_start,

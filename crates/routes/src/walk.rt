@@ -118,7 +118,7 @@ pub(crate) fn walk(
         numbers = limits::BUCKET_NUMBERS * step.count;
         joined = step.joined;
     }
-    let backlog = ports::backlog(first, joined).unwrap();
-    let delay = ports::delay(first, joined).unwrap();
-    text.put_route(backlog, delay);
+    let backlog = ports::backlog(first, joined);
+    let delay = ports::delay(first, joined);
+    text.put_route(backlog.unwrap(), delay.unwrap());
 }

@@ -10,5 +10,5 @@ returns-in_err-server c =
 
 pub returns : goal.returns
 returns c =
-    hop_passed c.args.input.now c.args.at c.in_ok-server.ensures c.whole-whole.ensures.start c.whole-whole.ensures.end
+    hop_passed c.args.input.now c.args.at c.in_ok-server.ensures _ _ _ c.whole-whole.ensures.start c.whole-whole.ensures.end
     c.requires.room c.pass.result c.pass.ensures
