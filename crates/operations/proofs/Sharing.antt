@@ -59,9 +59,3 @@ module _ (f : List ℕ) (s : Server) {at room : ℕ} {before after : List ℕ} w
       → Backlog (curve_of f) s backlog → Delay (curve_of f) s delay → through ≡ s
       → HopPartOutcome f s at room before after 0 count backlog delay through
   hop_handed o b d same = rw same (record { curve = o; figures = hop_answered f s refl b d })
-
-  -- A hop leaves the curve behind.
-  pub hop_curve :
-      {code count backlog delay : ℕ} {through : Server} → HopPartOutcome f s at room before after code count backlog delay through
-      → PartOutcome (passing f s) at room before after code count
-  hop_curve o = o.curve
