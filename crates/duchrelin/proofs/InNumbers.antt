@@ -1,62 +1,50 @@
--- From the server that numbers stand for to the numbers: what comes of the server comes of them, and a server that is answered is told
--- by its own.
+-- From what code answers to what C gets: over all of a list, of the server that numbers stand for, and in numbers.
 -- Assumes nothing.
 use mathlib.Core.Path.{◌≡◌}
 use mathlib.Core.List.{List}
 use Prim.Native.Nat.{ℕ}
-use Rattle.meaning.specs.Server.{Server, Numbers, numbers_of, server_named}
-use Rattle.meaning.specs.Refusal.{Outcome}
-use Rattle.meaning.specs.ServerQuestions.{passing, BacklogOutcome, DelayOutcome, JoinOutcome, ResidualOutcome, JoinNumbers, ResidualNumbers}
-use Rattle.meaning.specs.Profile.{ReadOutcome, ReadNumbers, WriteServerOutcome}
+use lib.ListN.{length}
+use Rattle.std.specs.Prelude.{Result}
+use Rattle.meaning.specs.Server.{Server, server_named}
+use Rattle.meaning.specs.Refusal.{Question, Outcome, PartOutcome}
+use Rattle.meaning.specs.ServerQuestions.{passing}
+use Rattle.meaning.specs.Profile.{ReadPartOutcome, ReadNumbers, WriteServerOutcome}
+use Rattle.meaning.proofs.Outcome.Outcomes.{whole_list}
+use Rattle.checks.specs.Table.{code_of, told}
+use Rattle.checks.specs.declared.refusal.Refusal.{Refusal}
 use Rattle.servers.specs.Cited.{numbers}
+use Rattle.profiles.specs.Cited.{reading_of}
+use Rattle.profiles.specs.declared.Profile.{Profile}
+use Rattle.profiles.proofs.Readings.{read_whole}
+use Rattle.duchrelin.specs.declared.duchrelin_profile.{duchrelin_profile}
+use Rattle.duchrelin.specs.Cited.{profile_numbers, ProfileTold}
 
-module _ {s : Server} (kind rate latency : ℕ) (e : s ≡ server_named (numbers kind rate latency)) where
-  pub named_backlog :
-      (f : List ℕ) (code n : ℕ) → BacklogOutcome f s code n → BacklogOutcome f (server_named (numbers kind rate latency)) code n
-  named_backlog f code n o = rw e at o
+module _ {at room : ℕ} {before after : List ℕ} (start : at ≡ 0) (end : room ≡ length before) where
+  module _ {code count : ℕ} (answer : Result ℕ Refusal) (code_is : code ≡ code_of answer) (count_is : count ≡ told answer) where
+    -- an answer over a part that is all of a list is one over the list,
+    pub whole_answer :
+        (ask : Question) → PartOutcome ask at room before after (code_of answer) (told answer) → Outcome ask before after code count
+    whole_answer ask o = rw (code_is, count_is) (whole_list ask (rw (start, end) at o))
 
-  pub named_delay :
-      (f : List ℕ) (code n : ℕ) → DelayOutcome f s code n → DelayOutcome f (server_named (numbers kind rate latency)) code n
-  named_delay f code n o = rw e at o
+    -- so it is of the curve behind the server that numbers stand for,
+    pub whole_behind :
+        (f : List ℕ) (s : Server) (kind rate latency : ℕ) → s ≡ server_named (numbers kind rate latency)
+        → PartOutcome (passing f s) at room before after (code_of answer) (told answer)
+        → Outcome (passing f (server_named (numbers kind rate latency))) before after code count
+    whole_behind f s kind rate latency e o = whole_answer _ (rw e at o)
 
-  pub named_behind :
-      (f : List ℕ) {before after : List ℕ} {code count : ℕ} → Outcome (passing f s) before after code count
-      → Outcome (passing f (server_named (numbers kind rate latency))) before after code count
-  named_behind f o = rw e at o
+  -- and of what is read of a file
+  pub whole_reading :
+      (file : List ℕ) (answer : Result Profile Refusal) (to_c : duchrelin_profile)
+      → ReadPartOutcome file at room before after (reading_of answer) → ProfileTold answer to_c
+      → ReadNumbers file before after (profile_numbers to_c)
+  whole_reading file answer to_c o t =
+      record { reading = reading_of answer; outcome = read_whole file (rw (start, end) at o); numbers_are = t.numbers_are }
 
-  pub named_written :
-      (ed : ℕ) {before after : List ℕ} {code count : ℕ} → WriteServerOutcome ed s before after code count
-      → WriteServerOutcome ed (server_named (numbers kind rate latency)) before after code count
-  named_written ed o = rw e at o
-
-  -- the server left, by its numbers
-  pub named_residual :
-      {cross : List ℕ} {code : ℕ} (left : Server) {answer : Numbers} → ResidualOutcome cross s code left → answer ≡ numbers_of left
-      → ResidualNumbers cross (numbers kind rate latency) code answer
-  named_residual left o is = record { left = left; outcome = rw e at o; numbers_are = is }
-
--- the joined server, by its numbers
-pub named_join :
-    {s next : Server} {kind rate latency kind' rate' latency' : ℕ} → s ≡ server_named (numbers kind rate latency)
-    → next ≡ server_named (numbers kind' rate' latency') → {code : ℕ} (joined : Server) {answer : Numbers}
-    → JoinOutcome s next code joined → answer ≡ numbers_of joined
-    → JoinNumbers (numbers kind rate latency) (numbers kind' rate' latency') code answer
-named_join e e' joined o is = record { joined = joined; outcome = rw (e, e') at o; numbers_are = is }
-
--- what is read, by its numbers
-pub told_in_numbers :
-    {file before after : List ℕ} {code edition kind count : ℕ} {s : Server} {held rate latency : ℕ}
-    → ReadOutcome file before after (record { code = code; edition = edition; kind = kind; count = count; server = s })
-    → numbers held rate latency ≡ numbers_of s
-    → ReadNumbers file before after
-    (record { code = code; edition = edition; kind = kind; count = count; rate = rate; latency = latency })
-told_in_numbers {code = code} {edition} {kind} {count} o is =
-    record {
-      reading = _;
-      outcome = o;
-      numbers_are =
-          λ i. record { code = code; edition = edition; kind = kind; count = count; rate = (is i).rate; latency = (is i).latency };
-    }
-
-pub ruleset in_numbers =
-    (named_backlog, named_delay, named_behind, named_written, named_residual, named_join, told_in_numbers)
+-- what is written of the server that numbers stand for
+pub named_written :
+    {before after : List ℕ} {code bytes : ℕ} (ed : ℕ) (s : Server) (kind rate latency : ℕ) (answer : Result ℕ Refusal)
+    → s ≡ server_named (numbers kind rate latency) → WriteServerOutcome ed s before after (code_of answer) (told answer)
+    → code ≡ code_of answer → bytes ≡ told answer
+    → WriteServerOutcome ed (server_named (numbers kind rate latency)) before after code bytes
+named_written ed s kind rate latency answer e o code_is bytes_is = rw (code_is, bytes_is) (rw e at o)

@@ -293,6 +293,7 @@ pub extern "C" fn duchrelin_residual(
 
 // The one profile that a file holds.
 #[unsafe(no_mangle)]
+#[tactic(auto, using(crate::proofs::InNumbers::whole_reading))]
 pub extern "C" fn duchrelin_read(file: &[u8], out: &mut [u64]) -> duchrelin_profile
     ensures { ReadNumbers file.now out.old out.new (profile_numbers result) }
 {
