@@ -74,7 +74,12 @@ fn show_in_part(rt: &impl Print, words: &str, room: usize) -> io::Result<()> {
 fn show_curves_in_parts(rt: &impl Print) -> io::Result<()> {
     let mut table = [9u64; 10];
     let lowered = lower(&[10, 2], &[3, 20], &mut table, MIDDLE);
-    show_table(rt, "lower {(10,2)} and {(3,20)} into a part:", lowered, &table)?;
+    show_table(
+        rt,
+        "lower {(10,2)} and {(3,20)} into a part:",
+        lowered,
+        &table,
+    )?;
 
     let mut table = [9u64; 10];
     let added = sum(&[10, 2], &[3, 20], &mut table, MIDDLE);
@@ -107,7 +112,12 @@ fn show_ports_in_parts(rt: &impl Print) -> io::Result<()> {
 
     let mut table = [9u64; 10];
     let late = behind(&curve, servers::pure_delay(4), &mut table, MIDDLE);
-    show_table(rt, "that curve behind a delay of 4 into a part:", late, &table)?;
+    show_table(
+        rt,
+        "that curve behind a delay of 4 into a part:",
+        late,
+        &table,
+    )?;
 
     let mut table = [9u64; 10];
     let file = [0x11, 0x00, 0x00, 0x02, 0x80, 0x00, 0x00, 0x00, 0x00, 0x80];
