@@ -17,7 +17,7 @@ pub use crate::refusal::Refusal;
 pub use crate::tested::Curve;
 
 // A bucket.
-#[derive(Clone, Copy)]
+#[derive(Clone, Copy, Debug, PartialEq, Eq)]
 pub struct Bucket {
     pub rate: u64,
     pub burst: u64,

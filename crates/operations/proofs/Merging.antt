@@ -15,7 +15,7 @@ use Rattle.meaning.specs.Curve.{Bucket, ◌∈◌, flat}
 use Rattle.checks.specs.Cited.{nth}
 use Rattle.checks.proofs.Buckets.{left_from}
 use Rattle.operations.specs.Cited.{bucket, comes_first, merged}
-use Rattle.operations.proofs.Pushing.{Pushed, pushed_start, pushed_count, pushed_next, pushed_end}
+use Rattle.operations.proofs.Pushing.{Pushed, pushed_count, pushed_next, pushed_end}
 
 -- ---- Two lists merged have the buckets of both.
 
@@ -150,10 +150,6 @@ pub record Merging (f g : List Bucket) (passed i : ℕ) (items : List ℕ) : Typ
   pub taken : i ≤ passed
   pub within : (i ≤ length f) × (passed - i ≤ length g)
   pub pushed : Pushed (merged f g) (merged (drop i f) (drop (passed - i) g)) items
-
-pub merging_start : (f g : List Bucket) {items : List ℕ} → items ≡ [] → Merging f g 0 0 items
-merging_start f g none =
-    record { taken = omega arith; within = (omega arith, omega arith); pushed = pushed_start (merged f g) none }
 
 module _ {f g : List Bucket} {passed i : ℕ} {items : List ℕ} (w : Merging f g passed i items) where
   -- there is room for one more

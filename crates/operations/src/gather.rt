@@ -9,7 +9,7 @@ use arrayvec::ArrayVec;
 use checks::{Bucket, Curve};
 
 // The next bucket of two curves that are merged: the first one's or the second one's.
-#[derive(Clone, Copy)]
+#[derive(Clone, Copy, Debug, PartialEq, Eq)]
 enum Next {
     First(Bucket),
     Second(Bucket),

@@ -6,9 +6,9 @@ use mathlib.Core.Logic.{inl, inr}
 use mathlib.Core.List.{List}
 use Prim.Native.Nat.{ℕ, ◌+◌, ◌-◌, ◌*◌, ◌/◌, ◌≤◌}
 use native.Mathlib.Omega.{arith}
-use lib.Dec.{eqb, lit≤}
+use lib.Dec.{lit≤}
 use lib.ListN.{length}
-use borrow.Author.Tests.{eqb-true, eqb-false, not-true, not-false}
+use borrow.Author.Tests.{not-true, not-false}
 use mir.Syntax.{w64}
 use mir.Val.{Fits}
 use Rattle.meaning.specs.Refusal.{HEADER, LENGTH, PAD, number, Verdict}
@@ -84,17 +84,6 @@ module _ {file : List ℕ} (whole : Whole file) {end : ℕ} (bits : BitsTaken fi
 pub ruleset pads = (padding_end_fits, padding_some, padding_inside, padding_read)
 
 -- ---- The three together.
-
--- the byte count is compared with the one required
-pub whole_told :
-    (file : List ℕ) {taken : ℕ} → taken ≡ bytes_taken file → Tells (Whole file) (eqb (length file) taken)
-whole_told file {taken} t =
-    record {
-      yes_means = λ h. record { is = eqb-true (length file) taken h ∙ t };
-      no_means = λ h same. eqb-false (length file) taken h (same.is ∙ sym t);
-    }
-
-pub ruleset wholes = (whole_told)
 
 -- the padding is read of a file of the byte count required
 pub told_whole : {file : List ℕ} {answer : Bool} → Tells (Whole file) answer → not answer ≡ false → Whole file

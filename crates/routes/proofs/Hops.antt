@@ -1,16 +1,14 @@
 -- What the steps of a walk say: whether a server is due, the servers joined, the hop at a server, and the place behind a profile.
 -- Assumes nothing.
 use mathlib.Core.Path.{◌≡◌, refl, ◌∙◌, ap, subst}
-use mathlib.Core.Bool.{true, false}
-use mathlib.Core.Logic.{inl, inr, ◌≢◌}
+use mathlib.Core.Logic.{◌≢◌}
 use mathlib.Core.List.{List}
 use Prim.Native.Nat.{ℕ, zero, suc, ◌+◌, ◌-◌, ◌≤◌}
 use native.Mathlib.Decide.{ℕ_discrete}
 use native.Mathlib.Omega.{arith}
-use lib.Dec.{ltb, lit≤}
+use lib.Dec.{lit≤}
 use lib.ListN.{length, take, drop, length-drop}
 use lib.Seq.{take_all}
-use borrow.Author.Tests.{ltb-true, ltb-false}
 use Rattle.meaning.specs.Curve.{curve_of, list_of}
 use Rattle.meaning.specs.Server.{Server, Behind}
 use Rattle.meaning.specs.Refusal.{Clear, Verdict, accepted, TooLarge}
@@ -31,24 +29,7 @@ use Rattle.settle.specs.declared.part.Part.{Part}
 use Rattle.operations.specs.declared.hops.Hop.{Hop}
 use Rattle.operations.specs.Told as of_hops
 use Rattle.routes.specs.Told.{HopTold}
-use Rattle.routes.specs.Cited.{FirstEnd, ServerRead, Due, joined_after, JoinTo, HopAt, unread, asked, Stepping, Stepped, BehindProfile}
-
--- ---- Whether a server is due.
-
-module _ {passed at end : ℕ} where
-  -- the first one is,
-  pub due_first : passed ≡ 0 → Due passed at end true
-  due_first e = record { is_due = λ _. inl e; is_not = λ z. absurd (never z) }
-    where
-      never : true ≡ false → ⊥
-      never z = let h : ◌≡◌ {A = ℕ} 0 1 = cc in omega arith
-
-  -- and any other where bytes are left
-  pub due_bytes : (passed ≡ 0 → ⊥) → Due passed at end (ltb at end)
-  due_bytes more =
-      record { is_due = λ e. inr (ltb-true at end e); is_not = λ e. (omega (arith, more), ltb-false at end e) }
-
-pub ruleset due_laws = (due_first, due_bytes)
+use Rattle.routes.specs.Cited.{FirstEnd, ServerRead, joined_after, JoinTo, HopAt, unread, asked, Stepping, Stepped, BehindProfile}
 
 -- ---- Joining.
 

@@ -33,8 +33,6 @@ module _ {input list : List ℕ} {code numbers : ℕ} (w : CurveRead input list 
         long = w.long;
       }
 
-pub ruleset reporting = (first_refused, first_starts)
-
 -- ---- The lent buffer.
 
 -- the text is handed over

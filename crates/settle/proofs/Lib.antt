@@ -5,7 +5,6 @@ pub mod Steepest
 pub mod Ordered
 pub mod Picking
 pub mod Copying
-pub mod Filling
 pub mod Placing
 pub mod Delivering
 pub mod Settling

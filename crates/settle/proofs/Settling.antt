@@ -134,8 +134,6 @@ module _
         (normal_is (buckets raw) a.some).form.some
         (rw (laid, same, chose.whole (t ∙ ap not few), numbers_are (normal (buckets raw))) at o)
 
-pub ruleset settles = (accept, wide_pairs, settled_refused, settled_many, settled)
-
 -- One outcome for every input: the code, the count and the whole table are fixed.
 pub one_settling :
     (raw : List ℕ) {at room : ℕ} {table after after' : List ℕ} {code count code' count' : ℕ}

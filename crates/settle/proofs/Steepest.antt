@@ -176,5 +176,3 @@ module _ {bound : ℕ} {pairs : List (List ℕ)} {best : Option held.Bucket} {i 
 
   pub sought_end : length pairs ≤ i → Best bound (buckets_in pairs) best
   sought_end h = rw (take_all i pairs h) at w.best_is
-
-pub ruleset seeking = (sought_start, sought_step, sought_end)
