@@ -234,9 +234,8 @@ pub extern "C" fn duchrelin_join(
     ensures { JoinNumbers (numbers kind rate latency) (numbers next_kind next_rate next_latency) result.code (server_numbers result) }
 {
     let first = servers::named(kind, rate, latency);
-    first
-        .join(servers::named(next_kind, next_rate, next_latency))
-        .into()
+    let next = servers::named(next_kind, next_rate, next_latency);
+    first.join(next).into()
 }
 
 // The curve behind a server.
