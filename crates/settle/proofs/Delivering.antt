@@ -92,23 +92,23 @@ module _ (pairs : List ℕ) {at room : ℕ} {table : List ℕ} where
           untouched (too_large (delivering pairs) _ (clear pairs some even) (delivery_right pairs) (inr (t.no_means (not-true answer n))))
 
       module _
-          (fits : not answer ≡ false) {after : List ℕ} {written : Bool} (p : Placed pairs at room table after written)
+          (fits : not answer ≡ false) {after : List ℕ} {code : ℕ} (p : Placed pairs at room table after code)
         where
           -- the part is too short
-          pub delivered_short : not written ≡ true → PartOutcome (delivering pairs) at room table after (number ROOM) 0
+          pub delivered_short : (code ≡ 0 → ⊥) → PartOutcome (delivering pairs) at room table after code 0
           unfolding number
           delivered_short n =
-              rw (p.stays (not-true written n))
+              rw (p.stays n, p.is_room n)
               (untouched
               (no_room (delivering pairs) _ (clear pairs some even) (delivery_right pairs) (single_delivery pairs) (not_large pairs few t fits)
-              (rw (numbers_are pairs some even) (p.short (not-true written n)))))
+              (rw (numbers_are pairs some even) (p.short n))))
 
           -- the curve stands in the part
-          pub delivered : not written ≡ false → PartOutcome (delivering pairs) at room table after 0 (length pairs / 2)
-          delivered n =
+          pub delivered : code ≡ 0 → PartOutcome (delivering pairs) at room table after 0 (length pairs / 2)
+          delivered fine =
               record {
-                inside = rw (part_after p (not-false written n) (delivery_some pairs some even)) stands;
-                outside = outside_after p (not-false written n) (delivery_some pairs some even);
+                inside = rw (part_after p fine (delivery_some pairs some even)) stands;
+                outside = outside_after p fine (delivery_some pairs some even);
               }
             where
               stands :
@@ -117,7 +117,7 @@ module _ (pairs : List ℕ) {at room : ℕ} {table : List ℕ} where
                   rw (← buckets_count pairs)
                   (rw (numbers_are pairs some even) at
                   (written_out (delivering pairs) (part at room table) (clear pairs some even) (delivery_right pairs) (single_delivery pairs) (not_large pairs few t fits)
-                  (rw (numbers_are pairs some even) (p.fits (not-false written n)))))
+                  (rw (numbers_are pairs some even) (p.fits fine))))
 
 pub ruleset delivers =
     (delivered_none, delivered_half, delivered_many, delivery_some, delivered_large, delivered_short, delivered)

@@ -1,7 +1,6 @@
 -- An answer written into a part of a table, and what the whole table then is.
 -- Assumes nothing.
 use mathlib.Core.Path.{◌≡◌, refl, sym, ◌∙◌, ap}
-use mathlib.Core.Bool.{Bool, true, false, true≢false}
 use mathlib.Core.Logic.{◌⊎◌, inl, inr}
 use mathlib.Core.List.{List, ◌++◌, append-nil, append_assoc}
 use Prim.Native.Nat.{ℕ, ◌-◌, ◌≤◌, ◌<◌, min}
@@ -9,7 +8,7 @@ use native.Mathlib.Nat.{le_of_lt}
 use native.Mathlib.Omega.{arith}
 use lib.ListN.{length, take, drop, length-append, length-take, length-drop, take-append-drop, drop_of_length-le}
 use lib.Seq.{length-take-le, take_all, take_at, drop_at, drop-append-le}
-use Rattle.meaning.specs.Refusal.{over, part}
+use Rattle.meaning.specs.Refusal.{ROOM, number, over, part}
 use Rattle.meaning.proofs.Order.{le_or_lt}
 use Rattle.settle.specs.Cited.{Placed}
 use Rattle.settle.proofs.Copying.{tail_over}
@@ -24,39 +23,42 @@ part_length at room table = length-take room (drop at table) ∙ ap (min room) (
 -- the part is too short
 short_placed :
     (answer : List ℕ) (at room : ℕ) (table : List ℕ) → min room (length table - at) < length answer
-    → Placed answer at room table table false
+    → Placed answer at room table table (number ROOM)
+unfolding number
 short_placed answer at room table h =
     record {
-      fits = λ t. absurd (true≢false (sym t));
-      stands = λ t. absurd (true≢false (sym t));
-      short = λ t. rw part_length h;
-      stays = λ t. refl;
+      fits = λ t. absurd (omega (arith, t));
+      stands = λ t. absurd (omega (arith, t));
+      short = λ n. rw part_length h;
+      is_room = λ n. refl;
+      stays = λ n. refl;
     }
 
 module _ {answer : List ℕ} {at room : ℕ} {table : List ℕ} where
   -- it begins past the table's end
-  pub placed_outside : 1 ≤ length answer → length table < at → Placed answer at room table table false
+  pub placed_outside : 1 ≤ length answer → length table < at → Placed answer at room table table (number ROOM)
   placed_outside some h = short_placed answer at room table (omega arith)
 
   -- it has too few numbers
-  pub placed_narrow : room < length answer → Placed answer at room table table false
+  pub placed_narrow : room < length answer → Placed answer at room table table (number ROOM)
   placed_narrow h = short_placed answer at room table (omega arith)
 
   -- the table ends too soon
-  pub placed_cut : length table - at < length answer → Placed answer at room table table false
+  pub placed_cut : length table - at < length answer → Placed answer at room table table (number ROOM)
   placed_cut h = short_placed answer at room table (omega arith)
 
   -- the answer is written
   pub placed_written :
       {now : List ℕ} → length answer ≤ room → length answer ≤ length table - at
       → now ≡ over answer (take (length table - at) (drop at table))
-      → Placed answer at room table (take at table ++ (now ++ drop (length table - at) (drop at table))) true
+      → Placed answer at room table (take at table ++ (now ++ drop (length table - at) (drop at table))) 0
   placed_written {now} wide long written =
       record {
         fits = λ t. rw part_length (omega arith);
         stands = λ t. tail_over answer at table (length table - at) (omega arith) written;
-        short = λ t. absurd (true≢false t);
-        stays = λ t. absurd (true≢false t);
+        short = λ n. absurd (n refl);
+        is_room = λ n. absurd (n refl);
+        stays = λ n. absurd (n refl);
       }
 
 pub ruleset placing = (placed_outside, placed_narrow, placed_cut, placed_written)
@@ -89,8 +91,8 @@ front_back p l room e = split (le_or_lt room (length l))
         ∙ take_all room p (omega (arith, length-take room l))
 
 module _
-    {answer : List ℕ} {at room : ℕ} {table after : List ℕ} {written : Bool} (p : Placed answer at room table after written)
-    (t : written ≡ true) (some : 1 ≤ length answer) where
+    {answer : List ℕ} {at room : ℕ} {table after : List ℕ} {code : ℕ} (p : Placed answer at room table after code)
+    (t : code ≡ 0) (some : 1 ≤ length answer) where
   -- in the part the answer stands over what was there
   pub part_after : part at room after ≡ over answer (part at room table)
   unfolding part

@@ -1,9 +1,9 @@
 -- What the contracts of this crate's own functions cite, beside the definitions of the crate meaning.
 -- Assumes nothing.
-use Rattle.std.specs.Prelude.{◌≡◌, Bool, true, false, cond, ltb, map, List, [], ◌∷◌, ◌++◌, ℕ, ◌-◌, ◌*◌, ◌^◌, ◌≤◌, ◌<◌, length, take, drop, Option, Some, MatchOption, Result, IsOk, IsErr}
+use Rattle.std.specs.Prelude.{◌≡◌, false, cond, ltb, map, List, [], ◌∷◌, ◌++◌, ℕ, ◌-◌, ◌*◌, ◌^◌, ◌≤◌, ◌<◌, length, take, drop, Option, Some, MatchOption, Result, IsOk, IsErr}
 use Rattle.meaning.specs.Curve.{Bucket, buckets, NormalOf}
 use Rattle.meaning.specs.Computed.{Ends, is_open, normal}
-use Rattle.meaning.specs.Refusal.{LIST, RANGE, ◌when◌, ◌or◌, Within, AllWithin, Uneven, Question, over, part}
+use Rattle.meaning.specs.Refusal.{LIST, RANGE, ROOM, number, ◌when◌, ◌or◌, Within, AllWithin, Uneven, Question, over, part}
 use Rattle.checks.specs.declared.Bucket as held_bucket
 use Rattle.settle.specs.Order.{buckets_in, Best, Leave}
 use Rattle.settle.specs.declared.candidates.Candidates.{Candidates}
@@ -79,9 +79,10 @@ pub record Chose {Refused : Type 0} (raw : List Bucket) (chosen : List (List ℕ
   pub whole : IsOk all → chosen ≡ map numbers (normal raw)
   pub over_many : IsErr all → 64 < length (normal raw)
 
--- The answer stands in the part of the table, or the part is too short for it and the table stays.
-pub record Placed (answer : List ℕ) (at room : ℕ) (before after : List ℕ) (written : Bool) : Type 0 where
-  pub fits : written ≡ true → length answer ≤ length (part at room before)
-  pub stands : written ≡ true → after ≡ take at before ++ over answer (drop at before)
-  pub short : written ≡ false → length (part at room before) < length answer
-  pub stays : written ≡ false → after ≡ before
+-- The answer stands in the part of the table; or the part is too short for it, which is ROOM, and the table stays.
+pub record Placed (answer : List ℕ) (at room : ℕ) (before after : List ℕ) (code : ℕ) : Type 0 where
+  pub fits : code ≡ 0 → length answer ≤ length (part at room before)
+  pub stands : code ≡ 0 → after ≡ take at before ++ over answer (drop at before)
+  pub short : (code ≡ 0 → ⊥) → length (part at room before) < length answer
+  pub is_room : (code ≡ 0 → ⊥) → code ≡ number ROOM
+  pub stays : (code ≡ 0 → ⊥) → after ≡ before

@@ -23,8 +23,6 @@ pub fn deliver(pairs: &[u64], table: &mut [u64], part: Part) -> Result<usize, Re
     if !checks::within(pairs, limits::RATE_END, limits::BURST_END) {
         return Err(Refusal::Large);
     }
-    if !part.take(pairs, table) {
-        return Err(Refusal::Room);
-    }
+    part.write(pairs, table)?;
     Ok(n / 2)
 }

@@ -1,7 +1,10 @@
 // Where in a lent table an answer goes.
 ghost use Rattle.std.specs.Prelude.{◌≡◌, ◌≤◌, length};
 ghost use Rattle.meaning.specs.Refusal.{over};
+ghost use Rattle.checks.specs.Table.{code_of};
 ghost use Rattle.settle.specs.Cited.{Placed};
+
+use checks::Refusal;
 
 // A part of a table: the `room` numbers from `at`, as far as the table has them.
 #[derive(Clone, Copy, Debug, PartialEq, Eq)]
@@ -12,7 +15,7 @@ pub struct Part {
 
 // Copies an answer to the start of a list.
 #[tactic(auto, unfolding(meaning::specs::Refusal::over))]
-fn write(answer: &[u64], out: &mut [u64])
+fn copy(answer: &[u64], out: &mut [u64])
     requires { length answer.now ≤ length out.old }
     ensures { out.new ≡ over answer.now out.old }
 {
@@ -32,22 +35,19 @@ impl Part {
         }
     }
 
-    // Writes an answer to its start, if the part has room for it.
+    // Writes an answer to its start, or tells that it has too little room.
     #[tactic(auto, using(crate::proofs::Placing::placing))]
-    pub(crate) fn take(self, answer: &[u64], table: &mut [u64]) -> bool
+    pub(crate) fn write(self, answer: &[u64], table: &mut [u64]) -> Result<(), Refusal>
         requires { 1 ≤ length answer.now }
-        ensures { Placed answer.now self.at self.room table.old table.new result }
+        ensures { Placed answer.now self.at self.room table.old table.new (code_of result) }
     {
-        if table.len() < self.at {
-            return false;
+        if table.len() < self.at
+            || self.room < answer.len()
+            || table.len() - self.at < answer.len()
+        {
+            return Err(Refusal::Room);
         }
-        if self.room < answer.len() {
-            return false;
-        }
-        if table.len() - self.at < answer.len() {
-            return false;
-        }
-        write(answer, &mut table[self.at..]);
-        true
+        copy(answer, &mut table[self.at..]);
+        Ok(())
     }
 }
