@@ -2,14 +2,14 @@
 -- Assumes nothing.
 use mathlib.Core.Path.{◌≡◌, refl, sym, ◌∙◌, subst}
 use mathlib.Core.Logic.{◌⊎◌, inl, inr, ⊎_elim}
-use mathlib.Core.Bool.{Bool, true, false, not}
+use mathlib.Core.Bool.{Bool, true, false}
 use mathlib.Core.List.{List}
 use Prim.Native.Nat.{ℕ, ◌%◌, ◌^◌, ◌≤◌, ◌<◌, min}
 use native.Mathlib.Nat.{min-eq_left, min-eq_right, le_of_lt}
 use native.Mathlib.Omega.{arith}
 use lib.ListN.{length}
 use lib.Dec.{lit≤}
-use borrow.Author.Tests.{eq-eqb, ne_eqb, not-true, not-false}
+use borrow.Author.Tests.{eq-eqb, ne_eqb}
 use Rattle.meaning.specs.Curve.{Bucket, buckets, width, curve_of, NormalForm}
 use Rattle.meaning.specs.Refusal.{LIST, COUNT, RANGE, FORM, number, Lines, ◌when◌, ◌or◌, Clear, Verdict, accepted, rejected, AllInRange, Uneven, list_lines, raw_lines, curve_lines}
 use Rattle.meaning.specs.CurveQuestions.{link_line}
@@ -37,34 +37,36 @@ module _ {a b : Lines} (clear : Clear (a or b)) where
   pub clear_second : Clear b
   clear_second r h = clear r (inr h)
 
-module _ (numbers : ℕ) (l : List ℕ) (f : List Bucket) where
+-- what LIST says of a list that no line refuses
+module _ (numbers : ℕ) (l : List ℕ) (clear : Clear (LIST when (Uneven numbers l))) where
+  -- it is not empty,
+  pub even_some : 1 ≤ length l
+  even_some = not_above (λ h. clear LIST (refl, inl (omega arith)))
+
+  -- and comes out even
+  pub even_whole : length l % numbers ≡ 0
+  even_whole = not_apart (λ h. clear LIST (refl, inr h))
+
+module _ (numbers : ℕ) (l : List ℕ) (f : List Bucket) {code : ℕ} (v : Verdict (LIST when (Uneven numbers l)) code) where
   -- what LIST or COUNT refuses is refused, whatever the ranges
   short_refused :
-      {code : ℕ} → 1 ≤ code → Verdict (LIST when (Uneven numbers l) or COUNT when (64 < length f)) code
-      → Verdict (list_lines numbers l f) code
+      {short : ℕ} → 1 ≤ short → Verdict (LIST when (Uneven numbers l) or COUNT when (64 < length f)) short
+      → Verdict (list_lines numbers l f) short
   unfolding number
-  short_refused some v =
-      refused_first {n = 6} (up_to_or (up_to_when LIST (lit≤ tt)) (up_to_when COUNT (lit≤ tt))) (from_when RANGE (lit≤ tt)) some v
+  short_refused some w =
+      refused_first {n = 6} (up_to_or (up_to_when LIST (lit≤ tt)) (up_to_when COUNT (lit≤ tt))) (from_when RANGE (lit≤ tt)) some w
 
   -- LIST comes first
-  list_refused : Uneven numbers l → Verdict (list_lines numbers l f) (number LIST)
+  pub list_refused : (code ≡ 0 → ⊥) → Verdict (list_lines numbers l f) code
   unfolding number
-  list_refused x =
-      short_refused (lit≤ tt)
-      (refused_first {n = 4} (up_to_when LIST (lit≤ tt)) (from_when COUNT (lit≤ tt)) (lit≤ tt) (line_hit LIST x))
+  list_refused some =
+      short_refused (omega (arith, some))
+      (refused_first {n = 4} (up_to_when LIST (lit≤ tt)) (from_when COUNT (lit≤ tt)) (omega (arith, some)) v)
 
-  -- the list is empty
-  pub list_empty : length l ≡ 0 → Verdict (list_lines numbers l f) (number LIST)
-  list_empty h = list_refused (inl h)
-
-  -- it does not come out even
-  pub list_uneven : (length l % numbers ≡ 0 → ⊥) → Verdict (list_lines numbers l f) (number LIST)
-  list_uneven h = list_refused (inr h)
-
-  module _ (some : length l ≡ 0 → ⊥) (even : length l % numbers ≡ 0) where
+  module _ (zero_code : code ≡ 0) where
     -- LIST does not hold
     list_passed : Verdict (LIST when (Uneven numbers l)) 0
-    list_passed = line_miss (λ h. ⊎_elim some (λ odd. odd even) h)
+    list_passed = subst (Verdict (LIST when (Uneven numbers l))) zero_code v
 
     -- there are over 64 buckets
     pub list_many : 64 < length f → Verdict (list_lines numbers l f) (number COUNT)
@@ -77,14 +79,15 @@ module _ (numbers : ℕ) (l : List ℕ) (f : List Bucket) where
       count_passed = refused_then list_passed (line_miss (λ h. omega arith))
 
       -- a rate or burst is out of range
-      pub list_out_of_range : not answer ≡ true → Verdict (list_lines numbers l f) (number RANGE)
+      pub list_out_of_range : answer ≡ false → Verdict (list_lines numbers l f) (number RANGE)
       unfolding number
-      list_out_of_range e = refused_then count_passed (line_hit RANGE (t.no_means (not-true _ e)))
+      list_out_of_range e = refused_then count_passed (line_hit RANGE (t.no_means e))
 
       -- no line holds
-      pub list_right : not answer ≡ false → Verdict (list_lines numbers l f) 0
-      list_right e = refused_then count_passed (line_miss (λ out. out (t.yes_means (not-false _ e))))
+      pub list_right : answer ≡ true → Verdict (list_lines numbers l f) 0
+      list_right e = refused_then count_passed (line_miss (λ out. out (t.yes_means e)))
 
+module _ (numbers : ℕ) (l : List ℕ) (f : List Bucket) where
   -- What it says of a list that no line holds:
   module _ (clear : Clear (list_lines numbers l f)) where
     -- every rate and burst is in its range,
@@ -93,11 +96,11 @@ module _ (numbers : ℕ) (l : List ℕ) (f : List Bucket) where
 
     -- it comes out even,
     pub list_even : length l % numbers ≡ 0
-    list_even = not_apart (λ h. clear LIST (inl (inl (refl, inr h))))
+    list_even = even_whole numbers l (clear_first (clear_first clear))
 
     -- it is not empty,
     pub list_filled : 1 ≤ length l
-    list_filled = not_above (λ h. clear LIST (inl (inl (refl, inl (omega arith)))))
+    list_filled = even_some numbers l (clear_first (clear_first clear))
 
     -- and there are at most 64 buckets
     pub list_few : length f ≤ 64
@@ -107,34 +110,41 @@ module _ (numbers : ℕ) (l : List ℕ) (f : List Bucket) where
 
 module _ (l : List ℕ) where
   -- the list is empty
-  pub raw_empty : length l ≡ 0 → Verdict (raw_lines l) (number LIST)
-  raw_empty = list_empty 2 l (buckets l)
+  pub even_empty : length l ≡ 0 → Verdict (LIST when (Uneven 2 l)) (number LIST)
+  even_empty h = line_hit LIST (inl h)
 
   -- its length is odd
-  pub raw_odd : length l % 2 ≡ 1 → Verdict (raw_lines l) (number LIST)
-  raw_odd h = list_uneven 2 l (buckets l) (λ e. omega arith)
+  pub even_odd : length l % 2 ≡ 1 → Verdict (LIST when (Uneven 2 l)) (number LIST)
+  even_odd h = line_hit LIST (inr (λ e. omega arith))
 
-  module _ (some : length l ≡ 0 → ⊥) (even : length l % 2 ≡ 1 → ⊥) where
+  -- it is neither
+  pub even_right : (length l ≡ 0 → ⊥) → (length l % 2 ≡ 1 → ⊥) → Verdict (LIST when (Uneven 2 l)) 0
+  even_right some even = line_miss (λ h. ⊎_elim some (λ odd. odd (omega (arith, even))) h)
+
+module _ (l : List ℕ) {code : ℕ} (v : Verdict (LIST when (Uneven 2 l)) code) where
+  -- it has no bucket, or half of one
+  pub raw_uneven : (code ≡ 0 → ⊥) → Verdict (raw_lines l) code
+  raw_uneven = list_refused 2 l (buckets l) v
+
+  module _ (zero_code : code ≡ 0) where
     evenly : length l % 2 ≡ 0
-    evenly = omega (arith, even)
+    evenly = even_whole 2 l (passed v zero_code)
 
     -- there are over 64 buckets
     pub raw_many : 128 < length l → Verdict (raw_lines l) (number COUNT)
-    raw_many h = list_many 2 l (buckets l) some evenly (omega (arith, buckets_use l, evenly))
+    raw_many h = list_many 2 l (buckets l) v zero_code (omega (arith, buckets_use l, evenly))
 
     module _ (few : length l ≤ 128) {answer : Bool} (t : Tells (AllInRange (buckets l)) answer) where
       few_buckets : length (buckets l) ≤ 64
       few_buckets = omega (arith, buckets_use l)
 
       -- a rate or burst is out of range
-      pub raw_out_of_range : not answer ≡ true → Verdict (raw_lines l) (number RANGE)
-      raw_out_of_range = list_out_of_range 2 l (buckets l) some evenly few_buckets t
+      pub raw_out_of_range : answer ≡ false → Verdict (raw_lines l) (number RANGE)
+      raw_out_of_range = list_out_of_range 2 l (buckets l) v zero_code few_buckets t
 
       -- no line holds
-      pub raw_right : not answer ≡ false → Verdict (raw_lines l) 0
-      raw_right = list_right 2 l (buckets l) some evenly few_buckets t
-
-pub ruleset raw_line_rules = (raw_empty, raw_odd, raw_many, raw_out_of_range, raw_right)
+      pub raw_right : answer ≡ true → Verdict (raw_lines l) 0
+      raw_right = list_right 2 l (buckets l) v zero_code few_buckets t
 
 -- ---- A curve: the lines of its list, then FORM.
 

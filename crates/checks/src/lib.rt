@@ -7,7 +7,7 @@ mod tested;
 
 ghost use Rattle.std.specs.Prelude.{◌≡◌, length, IfOk};
 ghost use Rattle.meaning.specs.CurveQuestions.{tick_line, link_line};
-ghost use Rattle.meaning.specs.Refusal.{Verdict, raw_lines, curve_lines, AllInRange, AllWithin};
+ghost use Rattle.meaning.specs.Refusal.{LIST, ◌when◌, Verdict, Uneven, raw_lines, curve_lines, AllInRange, AllWithin};
 ghost use Rattle.meaning.specs.Curve.{buckets, curve_of, NormalForm};
 ghost use Rattle.meaning.specs.Computed.{earlier};
 ghost use Rattle.checks.specs.Cited.{Tells, bucket_of, nth};
@@ -118,9 +118,9 @@ fn in_form(curve: &[u64]) -> bool
     true
 }
 
-// Tests a raw list of buckets.
-pub fn raw(list: &[u64]) -> Result<(), Refusal>
-    ensures { Verdict (raw_lines list.now) (code_of result) }
+// Tests that a list has two numbers for each of its buckets, and one bucket at least.
+pub fn even(list: &[u64]) -> Result<(), Refusal>
+    ensures { Verdict (LIST when (Uneven 2 list.now)) (code_of result) }
 {
     let n = list.len();
     if n == 0 {
@@ -129,7 +129,15 @@ pub fn raw(list: &[u64]) -> Result<(), Refusal>
     if n % 2 == 1 {
         return Err(Refusal::List);
     }
-    if 2 * limits::BUCKETS < n {
+    Ok(())
+}
+
+// Tests a raw list of buckets.
+pub fn raw(list: &[u64]) -> Result<(), Refusal>
+    ensures { Verdict (raw_lines list.now) (code_of result) }
+{
+    even(list)?;
+    if 2 * limits::BUCKETS < list.len() {
         return Err(Refusal::Count);
     }
     if !within(list, limits::RATE_END, limits::BURST_END) {

@@ -1,22 +1,22 @@
 -- Buckets handed over as they stand, refusal by refusal, then the curve in the part of the table.
 -- Assumes nothing.
 use mathlib.Core.Path.{◌≡◌, refl, sym, ◌∙◌}
-use mathlib.Core.Bool.{Bool, true, false, not}
-use mathlib.Core.Logic.{inl, inr, ⊎_elim}
+use mathlib.Core.Bool.{Bool, true, false}
+use mathlib.Core.Logic.{inl, inr}
 use mathlib.Core.List.{List}
 use Prim.Native.Nat.{ℕ, ◌/◌, ◌%◌, ◌≤◌, ◌<◌}
 use native.Mathlib.Omega.{arith}
-use borrow.Author.Tests.{not-true, not-false}
 use lib.Dec.{lit≤}
 use lib.ListN.{length, take, length-take}
 use lib.Seq.{take_all}
 use Rattle.meaning.specs.Curve.{Bucket, buckets, flat, list_of}
-use Rattle.meaning.specs.Refusal.{LIST, LARGE, ROOM, number, Clear, AllWithin, TooLarge, Uneven, over, Question, Outcome, part, PartOutcome}
+use Rattle.meaning.specs.Refusal.{LIST, LARGE, number, ◌when◌, Clear, Verdict, AllWithin, TooLarge, Uneven, over, Question, Outcome, part, PartOutcome}
 use Rattle.meaning.proofs.Lists.{buckets_use, buckets_flat, flat_length}
 use Rattle.meaning.proofs.Order.{le_or_lt}
-use Rattle.meaning.proofs.Outcome.Outcomes.{Single, Same, one_part_outcome, up_to_when, line_hit, three_parts, refuse_in_part, too_large, no_room, written_out, asked_so_in_part}
+use Rattle.meaning.proofs.Outcome.Outcomes.{Single, Same, one_part_outcome, up_to_when, line_miss, three_parts, refuse_in_part, too_large, no_room, written_out, asked_so_in_part}
 use Rattle.checks.specs.Cited.{Tells}
 use Rattle.checks.proofs.Buckets.{buckets_count, flat_buckets}
+use Rattle.checks.proofs.Checks.{passed, even_some, even_whole}
 use Rattle.settle.specs.Cited.{delivering, Placed}
 use Rattle.settle.proofs.Placing.{part_after, outside_after}
 
@@ -40,12 +40,12 @@ delivery_right : (pairs : List ℕ) → (delivering pairs).Answer (buckets pairs
 unfolding delivering
 delivery_right pairs = refl
 
-module _ (pairs : List ℕ) (some : length pairs ≡ 0 → ⊥) (even : length pairs % 2 ≡ 1 → ⊥) where
+module _ (pairs : List ℕ) {even : ℕ} (v : Verdict (LIST when (Uneven 2 pairs)) even) (zero_code : even ≡ 0) where
   evenly : length pairs % 2 ≡ 0
-  evenly = omega (arith, even)
+  evenly = even_whole 2 pairs (passed v zero_code)
 
   clear : Clear (delivering pairs).operands
-  clear = delivery_clear pairs (λ h. ⊎_elim some (λ odd. odd evenly) h)
+  clear = delivery_clear pairs (λ h. passed v zero_code LIST (refl, h))
 
   -- the curve's list is the pairs
   numbers_are : list_of (buckets pairs) ≡ pairs
@@ -54,45 +54,37 @@ module _ (pairs : List ℕ) (some : length pairs ≡ 0 → ⊥) (even : length p
 
   -- there is something to place
   pub delivery_some : 1 ≤ length pairs
-  delivery_some = omega (arith, some)
+  delivery_some = even_some 2 pairs (passed v zero_code)
 
 -- buckets that are few and in range are not too large
 not_large :
     (pairs : List ℕ) {answer : Bool} → length pairs ≤ 128 → Tells (AllWithin 1048576 1099511627776 (buckets pairs)) answer
-    → not answer ≡ false → TooLarge (buckets pairs) → ⊥
+    → answer ≡ true → TooLarge (buckets pairs) → ⊥
 not_large pairs few t fits (inl many) = omega (arith, buckets_use pairs)
-not_large pairs {answer} few t fits (inr out_of) = out_of (t.yes_means (not-false answer fits))
+not_large pairs {answer} few t fits (inr out_of) = out_of (t.yes_means fits)
 
-module _ (pairs : List ℕ) {at room : ℕ} {table : List ℕ} where
-  -- they do not come out even
-  uneven : Uneven 2 pairs → PartOutcome (delivering pairs) at room table table (number LIST) 0
+module _ (pairs : List ℕ) {at room : ℕ} {table : List ℕ} {even : ℕ} (v : Verdict (LIST when (Uneven 2 pairs)) even) where
+  -- there is none, or half of one
+  pub delivered_uneven : (even ≡ 0 → ⊥) → PartOutcome (delivering pairs) at room table table even 0
   unfolding delivering number
-  uneven h = refuse_in_part (delivering pairs) at room table (up_to_when LIST (lit≤ tt)) (lit≤ tt) (line_hit LIST h)
+  delivered_uneven some = refuse_in_part (delivering pairs) at room table (up_to_when LIST (lit≤ tt)) (omega (arith, some)) v
 
-  -- there is none
-  pub delivered_none : length pairs ≡ 0 → PartOutcome (delivering pairs) at room table table (number LIST) 0
-  delivered_none h = uneven (inl h)
-
-  -- there is half of one
-  pub delivered_half : length pairs % 2 ≡ 1 → PartOutcome (delivering pairs) at room table table (number LIST) 0
-  delivered_half h = uneven (inr (λ e. omega arith))
-
-  module _ (some : length pairs ≡ 0 → ⊥) (even : length pairs % 2 ≡ 1 → ⊥) where
+  module _ (zero_code : even ≡ 0) where
     -- there are over 64
     pub delivered_many : 128 < length pairs → PartOutcome (delivering pairs) at room table table (number LARGE) 0
     unfolding number
     delivered_many h =
-        untouched (too_large (delivering pairs) _ (clear pairs some even) (delivery_right pairs) (inl (omega (arith, buckets_use pairs, evenly pairs some even))))
+        untouched (too_large (delivering pairs) _ (clear pairs v zero_code) (delivery_right pairs) (inl (omega (arith, buckets_use pairs, evenly pairs v zero_code))))
 
     module _ (few : length pairs ≤ 128) {answer : Bool} (t : Tells (AllWithin 1048576 1099511627776 (buckets pairs)) answer) where
       -- one is out of range
-      pub delivered_large : not answer ≡ true → PartOutcome (delivering pairs) at room table table (number LARGE) 0
+      pub delivered_large : answer ≡ false → PartOutcome (delivering pairs) at room table table (number LARGE) 0
       unfolding number
       delivered_large n =
-          untouched (too_large (delivering pairs) _ (clear pairs some even) (delivery_right pairs) (inr (t.no_means (not-true answer n))))
+          untouched (too_large (delivering pairs) _ (clear pairs v zero_code) (delivery_right pairs) (inr (t.no_means n)))
 
       module _
-          (fits : not answer ≡ false) {after : List ℕ} {code : ℕ} (p : Placed pairs at room table after code)
+          (fits : answer ≡ true) {after : List ℕ} {code : ℕ} (p : Placed pairs at room table after code)
         where
           -- the part is too short
           pub delivered_short : (code ≡ 0 → ⊥) → PartOutcome (delivering pairs) at room table after code 0
@@ -100,27 +92,24 @@ module _ (pairs : List ℕ) {at room : ℕ} {table : List ℕ} where
           delivered_short n =
               rw (p.stays n, p.is_room n)
               (untouched
-              (no_room (delivering pairs) _ (clear pairs some even) (delivery_right pairs) (single_delivery pairs) (not_large pairs few t fits)
-              (rw (numbers_are pairs some even) (p.short n))))
+              (no_room (delivering pairs) _ (clear pairs v zero_code) (delivery_right pairs) (single_delivery pairs) (not_large pairs few t fits)
+              (rw (numbers_are pairs v zero_code) (p.short n))))
 
           -- the curve stands in the part
           pub delivered : code ≡ 0 → PartOutcome (delivering pairs) at room table after 0 (length pairs / 2)
           delivered fine =
               record {
-                inside = rw (part_after p fine (delivery_some pairs some even)) stands;
-                outside = outside_after p fine (delivery_some pairs some even);
+                inside = rw (part_after p fine (delivery_some pairs v zero_code)) stands;
+                outside = outside_after p fine (delivery_some pairs v zero_code);
               }
             where
               stands :
                   Outcome (delivering pairs) (part at room table) (over pairs (part at room table)) 0 (length pairs / 2)
               stands =
                   rw (← buckets_count pairs)
-                  (rw (numbers_are pairs some even) at
-                  (written_out (delivering pairs) (part at room table) (clear pairs some even) (delivery_right pairs) (single_delivery pairs) (not_large pairs few t fits)
-                  (rw (numbers_are pairs some even) (p.fits fine))))
-
-pub ruleset delivers =
-    (delivered_none, delivered_half, delivered_many, delivery_some, delivered_large, delivered_short, delivered)
+                  (rw (numbers_are pairs v zero_code) at
+                  (written_out (delivering pairs) (part at room table) (clear pairs v zero_code) (delivery_right pairs) (single_delivery pairs) (not_large pairs few t fits)
+                  (rw (numbers_are pairs v zero_code) (p.fits fine))))
 
 -- One outcome for every input: the code, the count and the whole table are fixed.
 pub one_delivering :
@@ -156,7 +145,7 @@ module _
           let long : length (flat (take 65 f)) ≡ 130 = omega (arith, flat_length (take 65 f), length-take 65 f) in
           let same =
           one_delivering (flat (take 65 f)) o
-          (delivered_many (flat (take 65 f)) (λ none. omega arith) (λ odd. omega arith) (omega arith))
+          (delivered_many (flat (take 65 f)) (line_miss (flat_even (take 65 f) (omega (arith, length-take 65 f)))) refl (omega arith))
           in
           rw (same.code_same, same.figure_same, same.after_same) (untouched (too_large ask _ clear right (inl many)))
 

@@ -1,13 +1,12 @@
 -- From raw buckets to the outcome in a part of a table: what the tests say one after the other, and the normal form that is
 -- chosen, handed over.
 -- Assumes nothing.
-use mathlib.Core.Path.{◌≡◌, refl, sym, ◌∙◌, ap}
+use mathlib.Core.Path.{◌≡◌, refl, sym, ◌∙◌, ap, subst}
 use mathlib.Core.Bool.{Bool, true, false, not}
-use mathlib.Core.Logic.{inl, inr, ⊎_elim}
+use mathlib.Core.Logic.{inl, inr}
 use mathlib.Core.List.{List}
 use Prim.Native.Nat.{ℕ, ◌/◌, ◌%◌, ◌≤◌}
 use native.Mathlib.Omega.{arith}
-use borrow.Author.Tests.{not-true, not-false}
 use lib.Dec.{lit≤}
 use lib.ListN.{length}
 use Rattle.meaning.specs.Curve.{buckets}
@@ -32,38 +31,26 @@ use Rattle.meaning.proofs.Lists.{buckets_use}
 
 -- ---- The operands.
 
-module _ (raw : List ℕ) where
-  -- they do not come out even
-  uneven : Uneven 2 raw → Verdict (settling raw).operands (number LIST)
+module _ (raw : List ℕ) {even : ℕ} (v : Verdict (LIST when (Uneven 2 raw)) even) where
+  -- there is no bucket, or half of one
+  pub refused_uneven : (even ≡ 0 → ⊥) → Verdict (settling raw).operands even
   unfolding settling number
-  uneven h = refused_first {n = 4} (up_to_when LIST (lit≤ tt)) (from_when RANGE (lit≤ tt)) (lit≤ tt) (line_hit LIST h)
+  refused_uneven some =
+      refused_first {n = 4} (up_to_when LIST (lit≤ tt)) (from_when RANGE (lit≤ tt)) (omega (arith, some)) v
 
-  -- there is no bucket
-  pub refused_empty : length raw ≡ 0 → Verdict (settling raw).operands (number LIST)
-  refused_empty h = uneven (inl h)
+  module _ (zero_code : even ≡ 0) {answer : Bool} (t : Tells (AllWithin 1048576 2199023255552 (buckets raw)) answer) where
+    list_passed : Verdict (LIST when (Uneven 2 raw)) 0
+    list_passed = subst (Verdict (LIST when (Uneven 2 raw))) zero_code v
 
-  -- there is half of one
-  pub refused_half : length raw % 2 ≡ 1 → Verdict (settling raw).operands (number LIST)
-  refused_half h = uneven (inr (λ e. omega arith))
+    -- one is too wide
+    pub refused_range : answer ≡ false → Verdict (settling raw).operands (number RANGE)
+    unfolding settling number
+    refused_range n = refused_then list_passed (line_hit RANGE (t.no_means n))
 
-  module _
-      (some : length raw ≡ 0 → ⊥) (even : length raw % 2 ≡ 1 → ⊥) {answer : Bool}
-      (t : Tells (AllWithin 1048576 2199023255552 (buckets raw)) answer)
-    where
-      list_passed : Verdict (LIST when (Uneven 2 raw)) 0
-      list_passed = line_miss (λ h. ⊎_elim some (λ odd. odd (omega (arith, even))) h)
-
-      -- one is too wide
-      pub refused_range : not answer ≡ true → Verdict (settling raw).operands (number RANGE)
-      unfolding settling number
-      refused_range n = refused_then list_passed (line_hit RANGE (t.no_means (not-true answer n)))
-
-      -- no line holds
-      pub refused_not : not answer ≡ false → Verdict (settling raw).operands 0
-      unfolding settling
-      refused_not n = refused_then list_passed (line_miss (λ out. out (t.yes_means (not-false answer n))))
-
-pub ruleset refusing = (refused_empty, refused_half, refused_range, refused_not)
+    -- no line holds
+    pub refused_not : answer ≡ true → Verdict (settling raw).operands 0
+    unfolding settling
+    refused_not n = refused_then list_passed (line_miss (λ out. out (t.yes_means n)))
 
 -- There is a bucket, and none is too wide.
 pub record Accepted (raw : List ℕ) : Type 0 where

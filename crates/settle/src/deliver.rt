@@ -10,19 +10,13 @@ use checks::{Refusal, limits};
 pub fn deliver(pairs: &[u64], table: &mut [u64], part: Part) -> Result<usize, Refusal>
     ensures { Answers (delivering pairs.now) part table.old table.new result }
 {
-    let n = pairs.len();
-    if n == 0 {
-        return Err(Refusal::List);
-    }
-    if n % 2 == 1 {
-        return Err(Refusal::List);
-    }
-    if 2 * limits::BUCKETS < n {
+    checks::even(pairs)?;
+    if 2 * limits::BUCKETS < pairs.len() {
         return Err(Refusal::Large);
     }
     if !checks::within(pairs, limits::RATE_END, limits::BURST_END) {
         return Err(Refusal::Large);
     }
     part.write(pairs, table)?;
-    Ok(n / 2)
+    Ok(pairs.len() / 2)
 }

@@ -20,17 +20,11 @@ use crate::search::choose;
 use arrayvec::ArrayVec;
 use checks::{Refusal, limits};
 
-// Tests raw buckets.
+// Tests raw buckets, of which there may be any number.
 fn refusal(raw: &[u64]) -> Result<(), Refusal>
     ensures { Verdict (settling raw.now).operands (code_of result) }
 {
-    let n = raw.len();
-    if n == 0 {
-        return Err(Refusal::List);
-    }
-    if n % 2 == 1 {
-        return Err(Refusal::List);
-    }
+    checks::even(raw)?;
     if !checks::within(raw, limits::RATE_END, limits::RAW_BURST_END) {
         return Err(Refusal::Range);
     }

@@ -1,20 +1,19 @@
--- `raw` tests a raw list: its tests stand in the order of the table's numbers.
+-- `raw` tests a raw list: its tests stand in the order of the table's numbers, and LIST is handed on.
 -- Assumes nothing.
-use Rattle.checks.proofs.Checks.{raw_line_rules}
-use Rattle.std.proofs.Common.{rules}
+use Rattle.std.proofs.Common.{refl}
+use Rattle.checks.proofs.Numbers.{number_some, refused_as}
+use Rattle.checks.proofs.Checks.{raw_uneven, raw_many, raw_out_of_range, raw_right}
 use Rattle.checks.proofs.raw.Goals as goal
 
-pub returns-then-n-eq0 : goal.returns-then-n-eq0
-returns-then-n-eq0 c = search (raw_line_rules, rules)
+pub returns-in_err-even : goal.returns-in_err-even
+returns-in_err-even c =
+    rw (refused_as _ _ c.from_residual.ensures.1) (raw_uneven _ c.in_err-even.ensures (number_some _))
 
-pub returns-then-n-eq1 : goal.returns-then-n-eq1
-returns-then-n-eq1 c = search (raw_line_rules, rules)
-
-pub returns-then-n : goal.returns-then-n
-returns-then-n c = search (raw_line_rules, rules)
+pub returns-then-list : goal.returns-then-list
+returns-then-list c = raw_many _ c.in_ok-even.ensures refl c.if-list.true
 
 pub returns-then-not-within : goal.returns-then-not-within
-returns-then-not-within c = search (raw_line_rules, rules)
+returns-then-not-within c = raw_out_of_range _ c.in_ok-even.ensures refl c.if-list.false c.within.ensures c.if-not-within.true
 
 pub returns : goal.returns
-returns c = search (raw_line_rules, rules)
+returns c = raw_right _ c.in_ok-even.ensures refl c.if-list.false c.within.ensures c.if-not-within.false
