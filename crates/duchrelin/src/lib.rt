@@ -8,6 +8,8 @@ ghost use Rattle.meaning.specs.CurveQuestions.{normalising, lowering, summing, s
 ghost use Rattle.meaning.specs.ServerQuestions.{passing, BacklogOutcome, DelayOutcome, JoinNumbers, ResidualNumbers};
 ghost use Rattle.meaning.specs.Profile.{ReadNumbers, WriteCurveOutcome, WriteServerOutcome};
 ghost use Rattle.meaning.specs.Route.{RouteOutcome};
+ghost use Rattle.std.specs.Prelude.{◌≡◌};
+ghost use Rattle.checks.specs.Table.{code_of};
 ghost use Rattle.servers.specs.Cited.{numbers};
 ghost use Rattle.duchrelin.specs.Cited.{server_numbers, profile_numbers, AnswerTold, FigureTold, ServerTold, ProfileTold, WrittenTold};
 
@@ -63,19 +65,23 @@ pub struct duchrelin_written {
     pub bytes: u64,
 }
 
+// The code of an answer: 0, or the number of the refusal.
+fn code<A: Copy>(answer: Result<A, Refusal>) -> u64
+    ensures { result ≡ code_of answer }
+{
+    match answer {
+        Ok(_) => 0,
+        Err(refusal) => refusal.into(),
+    }
+}
+
 impl From<Result<usize, Refusal>> for duchrelin_answer {
     ghost from_gives = { AnswerTold };
 
     fn from(answer: Result<usize, Refusal>) -> duchrelin_answer {
-        match answer {
-            Ok(count) => duchrelin_answer {
-                code: 0,
-                count: count as u64,
-            },
-            Err(refusal) => duchrelin_answer {
-                code: refusal.into(),
-                count: 0,
-            },
+        duchrelin_answer {
+            code: code(answer),
+            count: answer.unwrap_or(0) as u64,
         }
     }
 }
@@ -84,12 +90,9 @@ impl From<Result<u64, Refusal>> for duchrelin_figure {
     ghost from_gives = { FigureTold };
 
     fn from(answer: Result<u64, Refusal>) -> duchrelin_figure {
-        match answer {
-            Ok(figure) => duchrelin_figure { code: 0, figure },
-            Err(refusal) => duchrelin_figure {
-                code: refusal.into(),
-                figure: 0,
-            },
+        duchrelin_figure {
+            code: code(answer),
+            figure: answer.unwrap_or(0),
         }
     }
 }
@@ -114,27 +117,35 @@ impl From<Result<Profile, Refusal>> for duchrelin_profile {
 
     fn from(answer: Result<Profile, Refusal>) -> duchrelin_profile {
         match answer {
-            Ok(profile) => match profile.held {
-                Held::Curve(count) => duchrelin_profile {
-                    code: 0,
-                    edition: profile.edition,
-                    kind: profiles::CURVE,
-                    count: count as u64,
-                    rate: 0,
-                    latency: 0,
+            Ok(
+                Profile {
+                    edition,
+                    held: Held::Curve(count),
                 },
-                Held::Server(server) => {
-                    let held = server.numbers();
-                    duchrelin_profile {
-                        code: 0,
-                        edition: profile.edition,
-                        kind: held.kind,
-                        count: 0,
-                        rate: held.rate,
-                        latency: held.latency,
-                    }
-                }
+            ) => duchrelin_profile {
+                code: 0,
+                edition,
+                kind: profiles::CURVE,
+                count: count as u64,
+                rate: 0,
+                latency: 0,
             },
+            Ok(
+                Profile {
+                    edition,
+                    held: Held::Server(server),
+                },
+            ) => {
+                let numbers = server.numbers();
+                duchrelin_profile {
+                    code: 0,
+                    edition,
+                    kind: numbers.kind,
+                    count: 0,
+                    rate: numbers.rate,
+                    latency: numbers.latency,
+                }
+            }
             Err(refusal) => duchrelin_profile {
                 code: refusal.into(),
                 edition: 0,
@@ -151,15 +162,9 @@ impl From<Result<usize, Refusal>> for duchrelin_written {
     ghost from_gives = { WrittenTold };
 
     fn from(answer: Result<usize, Refusal>) -> duchrelin_written {
-        match answer {
-            Ok(bytes) => duchrelin_written {
-                code: 0,
-                bytes: bytes as u64,
-            },
-            Err(refusal) => duchrelin_written {
-                code: refusal.into(),
-                bytes: 0,
-            },
+        duchrelin_written {
+            code: code(answer),
+            bytes: answer.unwrap_or(0) as u64,
         }
     }
 }
