@@ -12,7 +12,7 @@ ghost use Rattle.checks.specs.Table.{code_of, told};
 use checks::Refusal;
 use text::Text;
 
-// Puts the text of an input.
+// Puts the report of an input into an empty text.
 fn report(input: &[u8], text: &mut Text)
     requires { text.old ≡ [] }
     ensures { Route input.now text.new }
