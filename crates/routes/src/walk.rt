@@ -6,8 +6,8 @@ ghost use Rattle.servers.specs.Cited.{server_of, server_told};
 ghost use Rattle.routes.specs.Cited.{Due, JoinTo, Stepping, Starts};
 ghost use Rattle.routes.specs.Told.{HopTold, StepTold};
 
-use crate::reading;
 use crate::text::Text;
+use crate::{CURVE_NUMBERS, reading};
 use checks::{Refusal, limits};
 use operations::hops::Hop;
 use operations::{hops, ports};
@@ -81,7 +81,7 @@ pub(crate) fn walk(
     input: &[u8],
     first: &[u64],
     start: usize,
-    mut curve: [u64; 128],
+    mut curve: [u64; CURVE_NUMBERS],
     text: &mut Text,
 )
     requires starts { Starts input.now first.now start curve }
@@ -89,7 +89,7 @@ pub(crate) fn walk(
     ensures { Route input.now text.new }
 {
     let mut numbers = first.len();
-    let mut next = [0u64; 128];
+    let mut next = [0u64; CURVE_NUMBERS];
     // No server yet: `passed` says so.
     let mut joined = servers::rated(0, 0);
     let mut passed = 0;
