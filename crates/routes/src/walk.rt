@@ -75,8 +75,8 @@ fn step_at(
     })
 }
 
-// Goes on from the curve, whose list is `first`, and which takes `start` bytes. `first` is the curve's list, kept for the line of the
-// route; `curve` begins with it and is written over from hop to hop.
+// Goes on from the curve, which takes `start` bytes. `first` is the curve's list, kept for the line of the route; `curve` begins with
+// it and is written over from hop to hop.
 pub(crate) fn walk(
     input: &[u8],
     first: &[u64],
