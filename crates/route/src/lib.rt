@@ -9,7 +9,7 @@ ghost use Rattle.route.specs.Cited.{Status};
 use std::fmt::InlineText;
 use std::io::{Eprint, Error, Stderr, Stdin, Stdout};
 
-// Where the route was answered, where it was refused, and where it could not be read or written.
+// The exit statuses: the route was answered, was refused, or could not be read or written.
 const ANSWERED: i32 = 0;
 
 const REFUSED: i32 = 1;
@@ -42,12 +42,13 @@ pub extern "C" fn duchrelin_route_program(stdin: Stdin, stdout: Stdout, stderr: 
     ensures { Status result }
 {
     let mut input = [0u8; INPUT_BYTES];
-    let got = pipe::fetch(stdin, &mut input);
-    if let Err(error) = got.whole {
-        complain(&stderr, "route: standard input", error);
-        return FAILED;
-    }
-    let count = got.count;
+    let count = match pipe::fetch(stdin, &mut input) {
+        Ok(count) => count,
+        Err(error) => {
+            complain(&stderr, "route: standard input", error);
+            return FAILED;
+        }
+    };
     let mut text = [0u8; TEXT_BYTES];
     let bytes = routes::route(&input[..count], &mut text).unwrap_or(0);
     if let Err(error) = pipe::send(&stdout, &text[..bytes]) {

@@ -2,13 +2,15 @@
 -- Assumes nothing.
 use mathlib.Core.Path.{◌≡◌, refl, sym, ◌∙◌, ap}
 use mathlib.Core.List.{List}
-use Prim.Native.Nat.{ℕ, ◌*◌, ◌≤◌, ◌<◌}
+use Prim.Native.Nat.{ℕ, ◌*◌, ◌≤◌, min}
 use native.Mathlib.Decide.{ℕ_discrete}
 use native.Mathlib.Omega.{arith}
 use lib.ListN.{length, take}
-use lib.Seq.{take_all, length-take-le}
+use lib.Seq.{length-take-le}
 use mir.Syntax.{w64}
 use mir.Val.{Fits}
+use Rattle.std.proofs.Math.Nat.{min-le_right}
+use Rattle.std.proofs.lemmas.List.{take_min}
 use Rattle.meaning.specs.Server.{Server, rated, pure_delay, no_server, numbers_of}
 use Rattle.meaning.specs.Refusal.{HEADER, number, Outcome, Question}
 use Rattle.meaning.specs.Profile.{server, kind_of, kind_in, server_held, bytes_taken, Reading, ReadOutcome}
@@ -16,30 +18,23 @@ use Rattle.meaning.specs.Route.{first_file}
 use Rattle.meaning.proofs.Outcome.Slips.{refusal_keeps}
 use Rattle.meaning.proofs.Outcome.Answers.{fits_few, answered_list, outcome_length}
 use Rattle.meaning.proofs.Profile.Files.{held_curve, held_server}
-use Rattle.meaning.proofs.Route.BackToBack.{cut_short, same_start}
+use Rattle.meaning.proofs.Route.BackToBack.{same_start}
 use Rattle.meaning.proofs.Route.Winning.{curve_there, no_curve_there}
 use Rattle.meaning.proofs.Route.Codes.{server_code, curve_code, server_told, curve_told}
 use Rattle.routes.specs.Cited.{FirstEnd, CurveRead, ServerRead}
 
 -- ---- The first file.
 
-module _ (input : List ℕ) {taken : ℕ} (is : taken ≡ bytes_taken input) where
-  -- it is cut short,
-  pub end_short : length input < taken → FirstEnd input (length input)
-  end_short h =
-      record {
-        inside = omega arith;
-        lent = sym (length-take-le (length input) input (omega arith));
-        is = take_all (length input) input (omega arith) ∙ sym (cut_short input (omega (arith, is)));
-      }
-
-  -- or all there
-  pub end_there : taken ≤ length input → FirstEnd input taken
-  unfolding first_file
-  end_there h =
-      record { inside = h; lent = sym (length-take-le taken input h); is = ap (λ (n : ℕ). take n input) is }
-
-pub ruleset ending = (end_short, end_there)
+-- it ends behind its bytes, or with the input where that is sooner
+pub end_least : (input : List ℕ) {taken end : ℕ} → taken ≡ bytes_taken input → end ≡ min taken (length input) → FirstEnd input end
+unfolding first_file
+end_least input {taken} {end} is least =
+    let inside : end ≤ length input = rw least (min-le_right taken (length input)) in
+    record {
+      inside = inside;
+      lent = sym (length-take-le end input inside);
+      is = rw (least, is) (take_min (bytes_taken input) input);
+    }
 
 -- ---- The curve.
 

@@ -1,9 +1,9 @@
--- What the steps of a walk say: whether a server is due, the servers joined, the hop at a server, and the place behind a profile.
+-- What the steps of a walk say: the servers joined, the hop at a server, and what is left behind a profile.
 -- Assumes nothing.
 use mathlib.Core.Path.{◌≡◌, refl, ◌∙◌, ap, subst}
 use mathlib.Core.Logic.{◌≢◌}
 use mathlib.Core.List.{List}
-use Prim.Native.Nat.{ℕ, zero, suc, ◌+◌, ◌-◌, ◌≤◌}
+use Prim.Native.Nat.{ℕ, zero, suc, ◌-◌, ◌≤◌}
 use native.Mathlib.Decide.{ℕ_discrete}
 use native.Mathlib.Omega.{arith}
 use lib.Dec.{lit≤}
@@ -29,7 +29,7 @@ use Rattle.settle.specs.declared.part.Part.{Part}
 use Rattle.operations.specs.declared.hops.Hop.{Hop}
 use Rattle.operations.specs.Told as of_hops
 use Rattle.routes.specs.Told.{HopTold}
-use Rattle.routes.specs.Cited.{FirstEnd, ServerRead, joined_after, JoinTo, HopAt, unread, asked, Stepping, Stepped, BehindProfile}
+use Rattle.routes.specs.Cited.{FirstEnd, ServerRead, joined_after, JoinTo, HopAt, unread, asked, Stepping, Stepped}
 
 -- ---- Joining.
 
@@ -51,30 +51,19 @@ pub ruleset join_laws = (join_first, join_next)
 
 -- ---- The hop at a server.
 
--- what is left of an input from a place on is lent
-rest_is : (input : List ℕ) (at : ℕ) → take (length input - at) (drop at input) ≡ drop at input
-rest_is input at = take_all (length input - at) (drop at input) (omega (arith, length-drop at input))
+module _ {rest : List ℕ} {told : ℕ} {s : Server} (read : ServerRead rest told s) where
+  -- it is not read,
+  pub hop_unread :
+      {f after : List ℕ} {count backlog delay : ℕ} {through : Server} → (told ≡ 0 → ⊥) → length after ≡ 128
+      → HopAt rest f after told count backlog delay through
+  hop_unread other long = unread read.verdict other long
 
-module _
-    (input : List ℕ) (at : ℕ) {told : ℕ} {s : Server}
-    (read : ServerRead (take (length input - at) (drop at input)) told s)
-  where
-    -- what is read there is read from what is left
-    here : ServerRead (drop at input) told s
-    here = rw (rest_is input at) at read
-
-    -- it is not read,
-    pub hop_unread :
-        {f after : List ℕ} {count backlog delay : ℕ} {through : Server} → (told ≡ 0 → ⊥) → length after ≡ 128
-        → HopAt (drop at input) f after told count backlog delay through
-    hop_unread other long = unread here.verdict other long
-
-    -- or it is
-    pub hop_asked :
-        {f lent after : List ℕ} {code count backlog delay : ℕ} {through : Server} → told ≡ 0 → length lent ≡ 128
-        → HopOutcome f s lent after code count backlog delay through
-        → HopAt (drop at input) f after code count backlog delay through
-    hop_asked e long o = asked _ long ((code_zero here.verdict).0 e) (rw (here.told e) at o)
+  -- or it is
+  pub hop_asked :
+      {f lent after : List ℕ} {code count backlog delay : ℕ} {through : Server} → told ≡ 0 → length lent ≡ 128
+      → HopOutcome f s lent after code count backlog delay through
+      → HopAt rest f after code count backlog delay through
+  hop_asked e long o = asked _ long ((code_zero read.verdict).0 e) (rw (read.told e) at o)
 
 -- a hop into a part that is all of a list is a hop into the list
 whole_hop :
@@ -85,11 +74,11 @@ whole_hop {f} {s = s} start end o = record { curve = whole_list (passing f s) (r
 
 -- so what the hop answers is what comes of the server that stands there
 pub hop_passed :
-    (input : List ℕ) (at : ℕ) {s : Server} → ServerRead (take (length input - at) (drop at input)) 0 s
+    {rest : List ℕ} {s : Server} → ServerRead rest 0 s
     → (f lent after : List ℕ) {part : Part} → part.at ≡ 0 → part.room ≡ length lent → length lent ≡ 128
-    → (answer : Result Hop Refusal) → of_hops.HopTold f s part lent after answer → HopTold (drop at input) f after answer
-hop_passed input at read f lent after start end long (Ok hop) o = hop_asked input at read refl long (whole_hop start end o)
-hop_passed input at read f lent after start end long (Err r) o = hop_asked input at read refl long (whole_hop start end o)
+    → (answer : Result Hop Refusal) → of_hops.HopTold f s part lent after answer → HopTold rest f after answer
+hop_passed read f lent after start end long (Ok hop) o = hop_asked read refl long (whole_hop start end o)
+hop_passed read f lent after start end long (Err r) o = hop_asked read refl long (whole_hop start end o)
 
 -- ---- The hop with the servers before it.
 
@@ -198,16 +187,12 @@ module _ (rest : List ℕ) {f : List ℕ} (after : List ℕ) {passed : ℕ} {joi
       let step = step_joined h refl j in
       refused_step step.long nonzero step.verdict
 
--- ---- The place behind a profile.
+-- ---- What is left behind a profile.
 
-module _ (input : List ℕ) (at : ℕ) {end : ℕ} (first : FirstEnd (take (length input - at) (drop at input)) end) where
-  -- where the bytes are there, the place is behind them
-  pub behind_is : BehindProfile input at (at + end)
-  behind_is = record { is = λ all. omega (arith, taken all) }
-    where
-      taken : at + bytes_taken (drop at input) ≤ length input → end ≡ bytes_taken (drop at input)
-      taken all =
-          let here : FirstEnd (drop at input) end = rw (rest_is input at) at first in
-          here.lent
-          ∙ ap length here.is
-          ∙ first_length (drop at input) (omega (arith, length-drop at input))
+-- what is left of a list from a place on is lent
+pub rest_is : (l : List ℕ) (at : ℕ) → take (length l - at) (drop at l) ≡ drop at l
+rest_is l at = take_all (length l - at) (drop at l) (omega (arith, length-drop at l))
+
+-- a first file whose bytes are all there ends behind them
+pub whole_end : {l : List ℕ} {end : ℕ} → FirstEnd l end → bytes_taken l ≤ length l → end ≡ bytes_taken l
+whole_end {l} first whole = first.lent ∙ ap length first.is ∙ first_length l whole

@@ -1,6 +1,6 @@
 -- A number in decimal, and lines put piece by piece.
 -- Assumes nothing.
-use mathlib.Core.Path.{◌≡◌, refl, sym, ◌∙◌, ap}
+use mathlib.Core.Path.{◌≡◌, refl, sym, ◌∙◌, ap, subst}
 use mathlib.Core.List.{List, ◌∷◌, [], ◌++◌, append_assoc, append-nil}
 use Prim.Native.Nat.{ℕ, suc, ◌+◌, ◌^◌, ◌≤◌, ◌<◌}
 use native.Mathlib.Nat.{lt_of_lt_of_le}
@@ -119,15 +119,15 @@ pub ruleset counting = (counting_start, counting_room, counting_step, counting_e
 -- ---- The line of a refusal.
 
 -- a number and the space before it have 21 bytes at most
-numbers_few : (n : ℕ) → n < 2 ^ 64 → length (numbers (n ∷ [])) ≤ 21
-numbers_few n h = rw (numbers_one n) (omega (arith, digits_length 20 n 20 (lit≤ tt) (lt_of_lt_of_le h (lit≤ tt))))
+number_few : (n : ℕ) → n < 2 ^ 64 → length (32 ∷ digits 20 n) ≤ 21
+number_few n h = omega (arith, digits_length 20 n 20 (lit≤ tt) (lt_of_lt_of_le h (lit≤ tt)))
 
 module _ {word : List ℕ} (first : word ≡ 114 ∷ 101 ∷ 102 ∷ 117 ∷ 115 ∷ 101 ∷ 100 ∷ []) (code : ℕ) where
   -- behind its word there is room for the number,
-  pub refused_number : code < 2 ^ 64 → Room word (numbers (code ∷ []))
-  refused_number h = record { fits = omega (arith, ap length first, numbers_few code h) }
+  pub refused_number : code < 2 ^ 64 → Room word (32 ∷ digits 20 code)
+  refused_number h = record { fits = omega (arith, ap length first, number_few code h) }
 
-  module _ {numbered : List ℕ} (second : numbered ≡ word ++ numbers (code ∷ [])) (profile : ℕ) where
+  module _ {numbered : List ℕ} (second : numbered ≡ word ++ (32 ∷ digits 20 code)) (profile : ℕ) where
     -- behind that for the profile,
     pub refused_profile :
         code < 2 ^ 64 → profile < 2 ^ 64 → Room numbered (line_text (32 ∷ 97 ∷ 116 ∷ []) (profile ∷ []))
@@ -138,18 +138,25 @@ module _ {word : List ℕ} (first : word ≡ 114 ∷ 101 ∷ 102 ∷ 117 ∷ 115
                 arith,
                 ap length first,
                 ap length second,
-                numbers_few code h,
-                numbers_few profile k,
-                length-append word (numbers (code ∷ [])),
+                number_few code h,
+                number_few profile k,
+                ap length (numbers_one profile),
+                length-append word (32 ∷ digits 20 code),
                 length-append (numbers (profile ∷ [])) (10 ∷ []),
               );
         }
 
-    -- and then the line is put
-    pub refused_put :
-        {all : List ℕ}
-        → all ≡ numbered ++ line_text (32 ∷ 97 ∷ 116 ∷ []) (profile ∷ []) → all ≡ refused_text code profile
+    -- and then its line is put,
+    line_put : {all : List ℕ} → all ≡ numbered ++ line_text (32 ∷ 97 ∷ 116 ∷ []) (profile ∷ []) → all ≡ refused_text code profile
     unfolding refused_text bytes
-    refused_put put = rw (put, second, first) (simp append_assoc refl)
+    line_put put =
+        let listed : numbered ≡ word ++ numbers (code ∷ []) = second ∙ ap (λ (l : List ℕ). word ++ l) (sym (numbers_one code)) in
+        rw (put, listed, first) (simp append_assoc refl)
+
+    -- the refusal's whose number it is
+    pub refused_put :
+        {told : ℕ} {all : List ℕ}
+        → code ≡ told → all ≡ numbered ++ line_text (32 ∷ 97 ∷ 116 ∷ []) (profile ∷ []) → all ≡ refused_text told profile
+    refused_put {all = all} is put = subst (λ (n : ℕ). all ≡ refused_text n profile) is (line_put put)
 
 pub ruleset refusing = (refused_number, refused_profile, refused_put)

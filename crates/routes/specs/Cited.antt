@@ -1,6 +1,6 @@
 -- What the contracts of this crate's own functions cite, beside the definitions of the crate meaning.
 -- Assumes nothing.
-use Rattle.std.specs.Prelude.{◌≡◌, Bool, true, false, ◌⊎◌, ◌≢◌, List, [], ◌∷◌, ◌++◌, ℕ, zero, suc, ◌+◌, ◌*◌, ◌≤◌, ◌<◌, length, take, drop}
+use Rattle.std.specs.Prelude.{◌≡◌, Bool, true, false, ◌⊎◌, ◌≢◌, List, [], ◌∷◌, ◌++◌, ℕ, zero, suc, ◌+◌, ◌*◌, ◌≤◌, length, take}
 use Rattle.std.proofs.Math.Option.{Option, none, some}
 use Rattle.meaning.specs.Curve.{width, curve_of, list_of}
 use Rattle.meaning.specs.Server.{Server, Behind}
@@ -31,7 +31,7 @@ pub record FirstEnd (input : List ℕ) (end : ℕ) : Type 0 where
   pub lent : end ≡ length (take end input)
   pub is : take end input ≡ first_file input
 
--- What stands at the start of an input, where the curve is due, with its list from the start of a list of 128 numbers.
+-- What comes of reading the curve that is due at the start of an input: its list stands at the start of 128 numbers.
 pub record CurveRead (input list : List ℕ) (code numbers : ℕ) : Type 0 where
   pub verdict : Verdict (due_lines IsCurve input) code
   pub told : code ≡ 0 → take numbers list ≡ list_of (buckets_of (profile_of input))
@@ -47,9 +47,9 @@ pub record ServerRead (input : List ℕ) (code : ℕ) (s : Server) : Type 0 wher
 -- ---- Hop by hop.
 
 -- Whether a server is due, where so many are passed: none is passed yet, or bytes are left.
-pub record Due (passed at end : ℕ) (due : Bool) : Type 0 where
-  pub is_due : due ≡ true → (passed ≡ 0) ⊎ (at < end)
-  pub is_not : due ≡ false → (1 ≤ passed) × (end ≤ at)
+pub record Due (passed : ℕ) (rest : List ℕ) (due : Bool) : Type 0 where
+  pub is_due : due ≡ true → (passed ≡ 0) ⊎ (1 ≤ length rest)
+  pub is_not : due ≡ false → (1 ≤ passed) × (length rest ≡ 0)
 
 -- The servers joined, where so many are passed.
 unfoldable pub joined_after : ℕ → Server → Option Server
@@ -88,10 +88,6 @@ pub record Stepped
     pub few : count ≤ 64
     pub is_joined : code ≡ 0 → joined ≡ joined_with (joined_after passed before) (server_in (profile_of rest))
     pub long : length after ≡ 128
-
--- A place of the input behind the profile that stands at a place of it: where its bytes are there, behind them.
-pub record BehindProfile (input : List ℕ) (at behind : ℕ) : Type 0 where
-  pub is : at + bytes_taken (drop at input) ≤ length input → behind ≡ at + bytes_taken (drop at input)
 
 -- The input begins with a curve, whose list is f, and which takes so many bytes; the list stands at the start of 128 numbers too.
 pub record Starts (input f : List ℕ) (start : ℕ) (held : List ℕ) : Type 0 where

@@ -9,15 +9,18 @@ ghost use Rattle.std.specs.Prelude.{◌≡◌, []};
 ghost use Rattle.meaning.specs.Route.{Route, RouteOutcome};
 ghost use Rattle.checks.specs.Table.{code_of, told};
 
-use checks::Refusal;
+use checks::{Refusal, limits};
 use text::Text;
 
-// Puts the text of an input.
+// The numbers of a list with room for each curve.
+const CURVE_NUMBERS: usize = limits::BUCKETS * limits::BUCKET_NUMBERS;
+
+// Puts the report of an input into an empty text.
 fn report(input: &[u8], text: &mut Text)
     requires { text.old ≡ [] }
     ensures { Route input.now text.new }
 {
-    let mut first = [0u64; 128];
+    let mut first = [0u64; CURVE_NUMBERS];
     let numbers = match reading::read_curve(input, &mut first) {
         Ok(numbers) => numbers,
         Err(refusal) => return text.refuse(refusal, 1),

@@ -13,14 +13,10 @@ use settle::Part;
 pub(crate) fn first_end(input: &[u8]) -> usize
     ensures { FirstEnd input.now result }
 {
-    let taken = profiles::bytes_taken(input);
-    if input.len() < taken {
-        return input.len();
-    }
-    taken
+    profiles::bytes_taken(input).min(input.len())
 }
 
-// The curve that an input begins with, from the start of a list with room for 64 buckets. Answers how many numbers its list has.
+// Reads the curve that an input begins with into a list of 128 numbers. Answers how many of them are the curve's.
 pub(crate) fn read_curve(input: &[u8], out: &mut [u64]) -> Result<usize, Refusal>
     requires { length out.old ≡ 128 }
     ensures { CurveRead input.now out.new (code_of result) (told result) }
@@ -32,6 +28,7 @@ pub(crate) fn read_curve(input: &[u8], out: &mut [u64]) -> Result<usize, Refusal
     let whole = Part::whole(out);
     match profiles::read(&input[..end], out, whole)?.held {
         Held::Curve(count) => Ok(limits::BUCKET_NUMBERS * count),
+        // A file of this kind holds nothing else, which is proved.
         Held::Server(_) => unreachable!(),
     }
 }
@@ -47,6 +44,7 @@ pub(crate) fn read_server(rest: &[u8]) -> Result<Server, Refusal>
     let mut none = [0u64; 2];
     match profiles::read(&rest[..end], &mut none, Part { at: 0, room: 2 })?.held {
         Held::Server(server) => Ok(server),
+        // A file of this kind holds nothing else, which is proved.
         Held::Curve(_) => unreachable!(),
     }
 }

@@ -64,8 +64,8 @@ impl Text {
         requires { Room self.old (numbers list.now) }
         ensures { self.new ≡ self.old ++ numbers list.now }
     {
-        for n in list {
-            self.put_number(*n);
+        for &n in list {
+            self.put_number(n);
         }
     }
 
@@ -101,7 +101,7 @@ impl Text {
     {
         self.held.clear();
         self.put("refused");
-        self.put_numbers(&[u64::from(refusal)]);
+        self.put_number(refusal.into());
         self.put_line(" at", &[profile]);
     }
 }

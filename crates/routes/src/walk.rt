@@ -1,13 +1,13 @@
 // Through the input, hop by hop: from the curve over each server to the line of the route, or to the one line of a refusal.
-ghost use Rattle.std.specs.Prelude.{◌≡◌, ◌≤◌, [], length, drop};
+ghost use Rattle.std.specs.Prelude.{◌≡◌, [], length};
 ghost use Rattle.meaning.specs.Route.{Route};
 ghost use Rattle.checks.specs.Table.{code_of};
 ghost use Rattle.servers.specs.Cited.{server_of, server_told};
-ghost use Rattle.routes.specs.Cited.{Due, JoinTo, Stepping, BehindProfile, Starts};
+ghost use Rattle.routes.specs.Cited.{Due, JoinTo, Stepping, Starts};
 ghost use Rattle.routes.specs.Told.{HopTold, StepTold};
 
-use crate::reading;
 use crate::text::Text;
+use crate::{CURVE_NUMBERS, reading};
 use checks::{Refusal, limits};
 use operations::hops::Hop;
 use operations::{hops, ports};
@@ -27,10 +27,10 @@ struct Step {
 }
 
 // Whether a server is due: none is passed yet, or bytes are left.
-fn is_due(passed: u64, at: usize, end: usize) -> bool
-    ensures { Due passed at end result }
+fn is_due(passed: u64, rest: &[u8]) -> bool
+    ensures { Due passed rest.now result }
 {
-    passed == 0 || at < end
+    passed == 0 || !rest.is_empty()
 }
 
 // The server joined with those before it: the first one by itself.
@@ -43,32 +43,29 @@ fn join_to(passed: u64, joined: Server, next: Server) -> Result<Server, Refusal>
     joined.join(next)
 }
 
-// The hop at the server that stands at a place of the input: it is read, and the curve passes it.
-fn hop_at(input: &[u8], at: usize, curve: &[u64], next: &mut [u64]) -> Result<Hop, Refusal>
-    requires at_in_bounds { at ≤ length input.now }
+// The hop at the server that what is left of the input begins with: it is read, and the curve passes it.
+fn hop_at(rest: &[u8], curve: &[u64], next: &mut [u64]) -> Result<Hop, Refusal>
     requires room { length next.old ≡ 128 }
-    ensures { HopTold (drop at input.now) curve.now next.new result }
+    ensures { HopTold rest.now curve.now next.new result }
 {
-    let server = reading::read_server(&input[at..])?;
+    let server = reading::read_server(rest)?;
     let whole = Part::whole(next);
     hops::pass(curve, server, next, whole)
 }
 
 // The same, joined with the servers before it. The first of reading, passing and joining that is refused has the smallest number.
 fn step_at(
-    input: &[u8],
-    at: usize,
+    rest: &[u8],
     curve: &[u64],
     next: &mut [u64],
     passed: u64,
     joined: Server,
 ) -> Result<Step, Refusal>
-    requires at_in_bounds { at ≤ length input.now }
     requires stepping { Stepping curve.now passed (server_of joined) }
     requires room { length next.old ≡ 128 }
-    ensures { StepTold curve.now passed (server_of joined) (drop at input.now) next.new result }
+    ensures { StepTold curve.now passed (server_of joined) rest.now next.new result }
 {
-    let hop = hop_at(input, at, curve, next)?;
+    let hop = hop_at(rest, curve, next)?;
     let all = join_to(passed, joined, hop.server)?;
     Ok(Step {
         count: hop.count,
@@ -78,20 +75,13 @@ fn step_at(
     })
 }
 
-// The place behind the profile that stands at a place of the input, as far as there are bytes.
-fn behind_profile(input: &[u8], at: usize) -> usize
-    requires { at ≤ length input.now }
-    ensures { BehindProfile input.now at result }
-{
-    at + reading::first_end(&input[at..])
-}
-
-// Goes on from the curve, whose list is `first`, and which takes `start` bytes.
+// Goes on from the curve, which takes `start` bytes. `first` is the curve's list, kept for the line of the route; `curve` begins with
+// it and is written over from hop to hop.
 pub(crate) fn walk(
     input: &[u8],
     first: &[u64],
     start: usize,
-    mut curve: [u64; 128],
+    mut curve: [u64; CURVE_NUMBERS],
     text: &mut Text,
 )
     requires starts { Starts input.now first.now start curve }
@@ -99,26 +89,30 @@ pub(crate) fn walk(
     ensures { Route input.now text.new }
 {
     let mut numbers = first.len();
-    let mut next = [0u64; 128];
+    let mut next = [0u64; CURVE_NUMBERS];
+    // No server yet: `passed` says so.
     let mut joined = servers::rated(0, 0);
     let mut passed = 0;
-    let mut at = start;
-    while is_due(passed, at, input.len()) {
+    let mut rest = &input[start..];
+    while is_due(passed, rest) {
         if passed == SERVERS {
             return text.refuse(Refusal::Count, SERVERS + 2);
         }
-        let step = match step_at(input, at, &curve[..numbers], &mut next, passed, joined) {
+        let step = match step_at(rest, &curve[..numbers], &mut next, passed, joined) {
             Ok(step) => step,
+            // The curve is profile 1, so the server behind `passed` others is profile `passed` + 2.
             Err(refusal) => return text.refuse(refusal, passed + 2),
         };
         text.put_hop(passed + 1, step.backlog, step.delay);
         passed += 1;
-        at = behind_profile(input, at);
+        rest = &rest[reading::first_end(rest)..];
         curve = next;
         numbers = limits::BUCKET_NUMBERS * step.count;
         joined = step.joined;
     }
-    let backlog = ports::backlog(first, joined);
-    let delay = ports::delay(first, joined);
-    text.put_route(backlog.unwrap(), delay.unwrap());
+    // Where every hop is answered, so is the route, which is proved.
+    text.put_route(
+        ports::backlog(first, joined).unwrap(),
+        ports::delay(first, joined).unwrap(),
+    );
 }

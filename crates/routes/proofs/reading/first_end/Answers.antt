@@ -1,11 +1,7 @@
--- `first_end` finds the end of the first file: it is cut short, or all there.
+-- `first_end` finds the end of the first file: behind its bytes, or with the input where that is sooner.
 -- Assumes nothing.
-use Rattle.routes.proofs.Due.{ending}
-use Rattle.std.proofs.Common.{rules}
+use Rattle.routes.proofs.Due.{end_least}
 use Rattle.routes.proofs.reading.first_end.Goals as goal
 
-pub returns-then-input-taken : goal.returns-then-input-taken
-returns-then-input-taken c = search (ending, rules)
-
 pub returns : goal.returns
-returns c = search (ending, rules)
+returns c = end_least c.args.input.now c.bytes_taken.ensures c.min.ensures

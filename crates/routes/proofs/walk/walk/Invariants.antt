@@ -5,10 +5,10 @@ use Rattle.servers.specs.Cited.{server_of}
 use Rattle.routes.proofs.Walking.{Walking}
 use Rattle.routes.proofs.walk.walk.Given as goal
 
-abbrev pub invariant-loop-curve : goal.invariant-loop-curve
-invariant-loop-curve l =
-    Walking l.input l.first l.text l.passed (server_of l.joined) l.curve l.numbers l.next l.at
+abbrev pub invariant-loop-rest : goal.invariant-loop-rest
+invariant-loop-rest l =
+    Walking l.input l.first l.text l.passed (server_of l.joined) l.curve l.numbers l.next l.rest
 
-abbrev pub decreases-loop-curve : goal.decreases-loop-curve
-decreases-loop-curve l =
+abbrev pub decreases-loop-rest : goal.decreases-loop-rest
+decreases-loop-rest l =
     32 - l.passed
