@@ -31,7 +31,7 @@ impl<const N: usize> Model for BitWriter<N> {
 }
 
 impl<const N: usize> BitWriter<N> {
-    // A writer that has packed nothing.
+    // A writer that has packed nothing. (512 bytes are more than any file has, and keep positions small.)
     fn new() -> Self
         requires { N ≤ 512 }
         ensures { result ≡ [] }
@@ -51,6 +51,7 @@ impl<const N: usize> BitWriter<N> {
         ensures packed { self.new ≡ self.old ++ bits_of width x }
         ensures longer { length self.new ≡ length self.old + width }
     {
+        // `whole` is what was left with the field behind it; its low `pending` bits are in no byte yet.
         let whole = (self.left << width) + x;
         let end = self.at + width;
         let first = self.at / 8;
@@ -80,7 +81,7 @@ impl<const N: usize> BitWriter<N> {
     }
 }
 
-// Packs what every profile begins with, edition and kind.
+// Packs what every profile begins with, edition and kind. (512 bytes are more than any file has, and keep positions small.)
 fn begun<const N: usize>(edition: u64, kind: u64) -> BitWriter<N>
     requires edition_fits { edition < 2 ^ 4 }
     requires kind_fits { kind < 2 ^ 4 }
