@@ -84,7 +84,7 @@ fn count_in(input: &[u8]) -> usize
     if input.len() < 2 {
         return 1;
     }
-    bits::take_field(input, 8, 6) as usize + 1
+    bits::take_field(input, HEADER_BITS, 6) as usize + 1
 }
 
 // The bits before padding of the profile that an input begins with, by its kind and count.
