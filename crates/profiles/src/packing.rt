@@ -57,9 +57,9 @@ impl<const N: usize> BitWriter<N> {
         let first = self.at / 8;
         let mut pending = self.at % 8 + width;
         let last = first + pending / 8;
-        for i in first..last {
+        for byte in &mut self.bytes[..][first..last] {
             pending -= 8;
-            self.bytes[i] = ((whole >> pending) % 256) as u8;
+            *byte = ((whole >> pending) % 256) as u8;
         }
         self.left = whole % (1u64 << pending);
         self.at = end;
