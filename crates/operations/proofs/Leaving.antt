@@ -24,6 +24,13 @@ use Rattle.meaning.proofs.Outcome.Outcomes.{UpTo, number_positive, up_to_or, up_
 use Rattle.meaning.proofs.Outcome.Answers.{curve_up_to}
 use Rattle.meaning.proofs.Outcome.Demands.{port_curve, port_server, port_bounded, server_up_to, port_up_to, server_refused}
 use Rattle.checks.proofs.Checks.{passed}
+use Rattle.checks.proofs.Numbers.{second_wins, smaller_wins}
+use Rattle.checks.specs.Table.{line_of}
+use Rattle.checks.specs.contracts.refusal.RefusalOrd.TheImpl
+use Rattle.checks.specs.declared.refusal.Refusal as held
+use Rattle.checks.specs.declared.refusal.Refusal.TheVariants.{Range}
+use Rattle.std.proofs.Common.{Err, Ok}
+use Rattle.std.specs.Ordering.{ord_min}
 use Rattle.operations.specs.Cited.{bucket, Tested}
 use Rattle.std.specs.Int.{div_ceil}
 use Rattle.operations.proofs.Bounding.{quotient_is, quotient_small}
@@ -121,7 +128,7 @@ some_code x =
     ]
 
 -- what is refused of a pure delay beside a cross curve: the smaller of the curve's code and RANGE
-pub delay_shared :
+delay_shared :
     (f : List ℕ) (latency : ℕ) {x code : ℕ} → Verdict (curve_lines f) x → code ≡ earlier x (number RANGE)
     → ResidualOutcome f (pure_delay latency) code no_server
 unfolding ResidualOutcome number
@@ -145,3 +152,18 @@ delay_shared f latency {x} v e =
         back line (inl (inl h)) = inl h
         back line (inl (inr h)) = inr (h.0, tt)
         back line (inr h) = inr h
+
+-- so RANGE itself, where the curve is taken,
+pub delay_alone :
+    (f : List ℕ) (latency : ℕ) → Verdict (curve_lines f) 0
+    → ResidualOutcome f (pure_delay latency) (number (line_of Range)) no_server
+delay_alone f latency v =
+    delay_shared f latency v (second_wins {A = Unit {0}} {B = Unit {0}} {x = Ok tt} {y = Err Range} refl refl)
+
+-- and else the one of the two that comes first
+pub delay_first :
+    (f : List ℕ) (latency : ℕ) (r : held.Refusal) {least : held.Refusal} → Verdict (curve_lines f) (number (line_of r))
+    → least ≡ ord_min (TheImpl.cmp-value).it r Range
+    → ResidualOutcome f (pure_delay latency) (number (line_of least)) no_server
+delay_first f latency r v is =
+    delay_shared f latency v (smaller_wins {A = Unit {0}} {B = Unit {0}} {x = Err r} {y = Err Range} refl refl is)

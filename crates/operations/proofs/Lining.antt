@@ -10,11 +10,12 @@ use mir.Syntax.{w64}
 use mir.Val.{Fits}
 use lib.ListN.{length, drop, length-map, length-drop, drop_of_length-le}
 use lib.Seq.{get_or-drop}
-use Rattle.meaning.specs.Curve.{Bucket, flat}
+use Rattle.meaning.specs.Curve.{Bucket}
 use Rattle.meaning.specs.Server.{later}
 use Rattle.meaning.specs.Refusal.{InRange}
 use Rattle.meaning.proofs.Lists.{at_inside}
 use Rattle.checks.specs.Cited.{nth}
+use Rattle.settle.specs.Cited.{numbers}
 use Rattle.checks.proofs.Buckets.{left_from}
 use Rattle.operations.specs.Cited.{Tested, line_and_later}
 use Rattle.operations.proofs.Pushing.{Pushed, pushed_start, pushed_count, pushed_next, pushed_end}
@@ -45,29 +46,29 @@ line_nth f first rate burst latency (suc k) some h =
 -- ---- Step by step.
 
 -- The line and the buckets before k are pushed.
-pub record Lining (f : List Bucket) (first rate burst latency k : ℕ) (items : List ℕ) : Type 0 where
+pub record Lining (f : List Bucket) (first rate burst latency k : ℕ) (items : List (List ℕ)) : Type 0 where
   pub inside : (first ≤ k) × (k ≤ length f)
   pub pushed : Pushed (line_and_later f first rate burst latency) (map (later latency) (drop k f)) items
 
 -- the line is pushed
 pub lining_start :
-    (f : List Bucket) {first rate burst latency : ℕ} {items with_rate with_both : List ℕ} → first ≤ length f → items ≡ []
-    → with_rate ≡ items ++ rate ∷ [] → with_both ≡ with_rate ++ burst ∷ [] → Lining f first rate burst latency first with_both
+    (f : List Bucket) {first rate burst latency : ℕ} {items longer : List (List ℕ)} → first ≤ length f → items ≡ []
+    → longer ≡ items ++ (rate ∷ burst ∷ []) ∷ [] → Lining f first rate burst latency first longer
 unfolding line_and_later
-lining_start f {first} {rate} {burst} {latency} inside none one two =
+lining_start f {first} {rate} {burst} {latency} inside none one =
     record {
       inside = (omega arith, inside);
-      pushed = pushed_next (pushed_start (line_and_later f first rate burst latency) none) refl one two;
+      pushed = pushed_next (pushed_start (line_and_later f first rate burst latency) none) refl one;
     }
 
-module _ {f : List Bucket} {first rate burst latency k : ℕ} {items : List ℕ} (w : Lining f first rate burst latency k items) where
+module _ {f : List Bucket} {first rate burst latency k : ℕ} {items : List (List ℕ)} (w : Lining f first rate burst latency k items) where
   -- all are pushed
-  pub lining_end : length f ≤ k → items ≡ flat (line_and_later f first rate burst latency)
+  pub lining_end : length f ≤ k → items ≡ map numbers (line_and_later f first rate burst latency)
   lining_end end = pushed_end w.pushed (ap (map (later latency)) (drop_of_length-le f {i = k} end))
 
   module _ (more : k < length f) where
     -- there is room for one more
-    pub lining_room : length f ≤ 64 → length items + 2 ≤ 130
+    pub lining_room : length f ≤ 64 → length items < 65
     lining_room few =
         omega (
           arith,
@@ -79,14 +80,14 @@ module _ {f : List Bucket} {first rate burst latency k : ℕ} {items : List ℕ}
 
     -- it is pushed
     pub lining_step :
-        {here : Bucket} {with_rate with_both : List ℕ} → here ≡ nth f k → with_rate ≡ items ++ here.rate ∷ []
-        → with_both ≡ with_rate ++ (here.burst + here.rate * latency) ∷ []
-        → Lining f first rate burst latency (k + 1) with_both
+        {here : Bucket} {longer : List (List ℕ)} → here ≡ nth f k
+        → longer ≡ items ++ (here.rate ∷ (here.burst + here.rate * latency) ∷ []) ∷ []
+        → Lining f first rate burst latency (k + 1) longer
     unfolding later
-    lining_step is one two =
+    lining_step is one =
         record {
           inside = (omega (arith, w.inside.0), omega arith);
-          pushed = pushed_next w.pushed (ap (map (later latency)) (left_from f k more is)) one two;
+          pushed = pushed_next w.pushed (ap (map (later latency)) (left_from f k more is)) one;
         }
 
 -- the numbers of a bucket a latency later fit

@@ -4,15 +4,16 @@ use mathlib.Core.Path.{◌≡◌, refl, sym, ◌∙◌, ap}
 use mathlib.Core.Logic.{inl, inr}
 use mathlib.Core.Bool.{Bool, true, false, cond}
 use mathlib.Core.List.Memᴰ
-use mathlib.Core.List.{List, [], ◌∷◌, ◌++◌}
+use mathlib.Core.List.{List, [], ◌∷◌, ◌++◌, map}
 use Prim.Native.Nat.{ℕ, ◌+◌, ◌-◌, ◌≤◌, ◌<◌}
 use native.Mathlib.Nat.{le_of_lt}
 use native.Mathlib.Omega.{arith}
 use lib.ListN.{length, drop, length-drop, drop_of_length-le}
 use lib.Seq.{drop-drop}
 use borrow.Author.Tests.{lt-ltb, le-ltb, le-leb, lt-leb}
-use Rattle.meaning.specs.Curve.{Bucket, ◌∈◌, flat}
+use Rattle.meaning.specs.Curve.{Bucket, ◌∈◌}
 use Rattle.checks.specs.Cited.{nth}
+use Rattle.settle.specs.Cited.{numbers}
 use Rattle.checks.proofs.Buckets.{left_from}
 use Rattle.operations.specs.Cited.{bucket, comes_first, merged}
 use Rattle.operations.proofs.Pushing.{Pushed, pushed_count, pushed_next, pushed_end}
@@ -146,15 +147,15 @@ module _ (f g : List Bucket) {i j : ℕ} where
 -- ---- The merging step by step.
 
 -- Of the buckets passed, i are the first list's. They stand merged, and those that are left are to be merged behind them.
-pub record Merging (f g : List Bucket) (passed i : ℕ) (items : List ℕ) : Type 0 where
+pub record Merging (f g : List Bucket) (passed i : ℕ) (items : List (List ℕ)) : Type 0 where
   pub taken : i ≤ passed
   pub within : (i ≤ length f) × (passed - i ≤ length g)
   pub pushed : Pushed (merged f g) (merged (drop i f) (drop (passed - i) g)) items
 
-module _ {f g : List Bucket} {passed i : ℕ} {items : List ℕ} (w : Merging f g passed i items) where
+module _ {f g : List Bucket} {passed i : ℕ} {items : List (List ℕ)} (w : Merging f g passed i items) where
   -- there is room for one more
   pub merging_room :
-      length f ≤ 64 → length g ≤ 64 → passed < length f + length g → length items + 2 ≤ 256
+      length f ≤ 64 → length g ≤ 64 → passed < length f + length g → length items < 128
   merging_room few few' more =
       omega (
         arith,
@@ -166,33 +167,33 @@ module _ {f g : List Bucket} {passed i : ℕ} {items : List ℕ} (w : Merging f 
         length-drop (passed - i) g,
       )
 
-  module _ {rate burst : ℕ} {with_rate with_both : List ℕ} (first : with_rate ≡ items ++ rate ∷ []) (second : with_both ≡ with_rate ++ burst ∷ []) where
+  module _ {rate burst : ℕ} {longer : List (List ℕ)} (one : longer ≡ items ++ (rate ∷ burst ∷ []) ∷ []) where
     -- it is the first list's
     pub merging_first :
-        First (bucket rate burst) (drop i f) (drop (passed - i) g) → Merging f g (passed + 1) (i + 1) with_both
+        First (bucket rate burst) (drop i f) (drop (passed - i) g) → Merging f g (passed + 1) (i + 1) longer
     merging_first x =
         let same : passed + 1 - (i + 1) ≡ passed - i = omega arith in
         record {
           taken = omega (arith, w.taken);
           within = (omega (arith, x.0, length-drop i f), omega (arith, w.within.1));
           pushed =
-              rw (same, ← drop-drop 1 i f) (pushed_next w.pushed x.1 first second);
+              rw (same, ← drop-drop 1 i f) (pushed_next w.pushed x.1 one);
         }
 
     -- it is the second list's
     pub merging_second :
-        Second (bucket rate burst) (drop i f) (drop (passed - i) g) → Merging f g (passed + 1) i with_both
+        Second (bucket rate burst) (drop i f) (drop (passed - i) g) → Merging f g (passed + 1) i longer
     merging_second x =
         let further : passed + 1 - i ≡ passed - i + 1 = omega (arith, w.taken) in
         record {
           taken = omega (arith, w.taken);
           within = (w.within.0, omega (arith, x.0, length-drop (passed - i) g));
           pushed =
-              rw (further, ← drop-drop 1 (passed - i) g) (pushed_next w.pushed x.1 first second);
+              rw (further, ← drop-drop 1 (passed - i) g) (pushed_next w.pushed x.1 one);
         }
 
   -- all are merged
-  pub merging_end : length f + length g ≤ passed → items ≡ flat (merged f g)
+  pub merging_end : length f + length g ≤ passed → items ≡ map numbers (merged f g)
   unfolding merged
   merging_end all =
       let none : drop i f ≡ [] = drop_of_length-le f {i = i} (omega (arith, w.taken, w.within.1)) in

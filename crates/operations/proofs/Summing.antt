@@ -3,7 +3,7 @@
 use mathlib.Core.Path.{◌≡◌, refl, sym, ◌∙◌, ap, ap₂}
 use mathlib.Core.Logic.{inl, inr}
 use mathlib.Core.Bool.{Bool, true, false, cond}
-use mathlib.Core.List.{List, [], ◌∷◌, ◌++◌}
+use mathlib.Core.List.{List, [], ◌∷◌, ◌++◌, map}
 use Prim.Native.Nat.{ℕ, zero, suc, ◌+◌, ◌-◌, ◌*◌, ◌^◌, ◌≤◌, ◌<◌}
 use native.Mathlib.Nat.{le_of_eq, le_of_lt, mul-le-mul}
 use native.Mathlib.Omega.{arith}
@@ -12,13 +12,14 @@ use mir.Val.{Fits, bool_byte}
 use borrow.Author.Tests.{lt-ltb, le-ltb, le-leb, lt-leb}
 use lib.Dec.{leb, ltb}
 use lib.ListN.{length, take, drop, length-take, drop_of_length-le}
-use Rattle.meaning.specs.Curve.{Bucket, flat, added}
+use Rattle.meaning.specs.Curve.{Bucket, added}
 use Rattle.meaning.specs.Computed.{crosses_before, sum_after, merged_sum}
 use Rattle.meaning.specs.Refusal.{AllInRange}
 use Rattle.meaning.proofs.Lists.{at_inside}
 use Rattle.meaning.proofs.Curve.Value.{same_rate}
 use Rattle.meaning.proofs.Order.{le_or_lt, lt_or_eq_or_gt}
 use Rattle.checks.specs.Cited.{nth}
+use Rattle.settle.specs.Cited.{numbers}
 use Rattle.checks.proofs.Buckets.{left_from}
 use Rattle.operations.specs.Cited.{Tested, CrossingAt, TurnAfter, AtHand, StepOf}
 use Rattle.operations.specs.declared.adding.Step.{Step}
@@ -220,17 +221,17 @@ module _
 
 -- The first `count` buckets of the sum are pushed, and those left up to the 65th are the sum of what is left of the two, from the buckets
 -- numbered i and j on.
-pub record Summing (f g : List Bucket) (count i j : ℕ) (items : List ℕ) : Type 0 where
+pub record Summing (f g : List Bucket) (count i j : ℕ) (items : List (List ℕ)) : Type 0 where
   pub inside : (i < length f) × (j < length g)
   pub pushed : Pushed (take 65 (merged_sum f g)) (take (65 - count) (merged_sum (drop i f) (drop j g))) items
 
 pub summing_start :
-    (f g : List Bucket) {items : List ℕ} → 0 < length f → 0 < length g → items ≡ [] → Summing f g 0 0 0 items
+    (f g : List Bucket) {items : List (List ℕ)} → 0 < length f → 0 < length g → items ≡ [] → Summing f g 0 0 0 items
 summing_start f g some some' none = record { inside = (some, some'); pushed = pushed_start (take 65 (merged_sum f g)) none }
 
-module _ {f g : List Bucket} {count i j : ℕ} {items : List ℕ} (w : Summing f g count i j items) where
+module _ {f g : List Bucket} {count i j : ℕ} {items : List (List ℕ)} (w : Summing f g count i j items) where
   -- the 65th is pushed
-  pub summing_full : 65 ≤ count → items ≡ flat (take 65 (merged_sum f g))
+  pub summing_full : 65 ≤ count → items ≡ map numbers (take 65 (merged_sum f g))
   summing_full full = let none : 65 - count ≡ 0 = omega arith in pushed_end w.pushed (rw none refl)
 
   module _ (few : count < 65) where
@@ -248,7 +249,7 @@ module _ {f g : List Bucket} {count i j : ℕ} {items : List ℕ} (w : Summing f
     left_is e = let one : 65 - count ≡ suc (65 - (count + 1)) = omega arith in rw (e, one) refl
 
     -- there is room for it
-    pub summing_room : length items + 2 ≤ 130
+    pub summing_room : length items < 65
     summing_room =
         omega (
           arith,
@@ -285,26 +286,26 @@ module _ {f g : List Bucket} {count i j : ℕ} {items : List ℕ} (w : Summing f
                 );
           }
 
-      module _ {with_rate with_both : List ℕ} (one : with_rate ≡ items ++ (a.rate + b.rate) ∷ []) (two : with_both ≡ with_rate ++ (a.burst + b.burst) ∷ []) where
+      module _ {longer : List (List ℕ)} (one : longer ≡ items ++ ((a.rate + b.rate) ∷ (a.burst + b.burst) ∷ []) ∷ []) where
         -- where the two at hand are the last, it is the last
-        pub summing_last : length f + length g ≤ i + j + 2 → with_both ≡ flat (take 65 (merged_sum f g))
+        pub summing_last : length f + length g ≤ i + j + 2 → longer ≡ map numbers (take 65 (merged_sum f g))
         unfolding added
         summing_last last =
             pushed_end
             (pushed_next w.pushed
             (left_is
             (sum_ends f g w.inside.0 w.inside.1 (omega (arith, w.inside.1)) (omega (arith, w.inside.0)) ∙ ap (λ (k : Bucket). k ∷ []) (sym (ap₂ added is is'))))
-            one two)
+            one)
             (take_none (65 - (count + 1)) [] refl)
 
         -- where they are not, the walk goes on
         pub summing_step :
-            {r : Step} → StepOf f g i j r → Summing f g (count + 1) (i + r.first) (j + r.second) with_both
+            {r : Step} → StepOf f g i j r → Summing f g (count + 1) (i + r.first) (j + r.second) longer
         unfolding added
         summing_step s =
             record {
               inside = s.inside;
               pushed =
                   pushed_next w.pushed
-                  (left_is (s.next ∙ ap₂ (λ (k : Bucket) (l : List Bucket). k ∷ l) (sym (ap₂ added is is')) refl)) one two;
+                  (left_is (s.next ∙ ap₂ (λ (k : Bucket) (l : List Bucket). k ∷ l) (sym (ap₂ added is is')) refl)) one;
             }

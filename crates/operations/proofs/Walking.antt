@@ -2,17 +2,18 @@
 -- bucket that does not go lower has the least value of all on its way, and of all that it did not come to.
 -- Assumes nothing.
 use mathlib.Core.Path.{◌≡◌, sym, ◌∙◌, ap}
-use mathlib.Core.Bool.{true≢false}
+use mathlib.Core.Bool.{Bool, true≢false, ◌&&◌}
 use Rattle.std.proofs.lemmas.Bool.{eqb-true}
 use borrow.Author.Tests.{eq-eqb, ne_eqb}
-use Rattle.std.proofs.Common.{nat_eq}
 use mathlib.Core.Logic.{inl, inr}
 use mathlib.Core.List.{List}
 use Prim.Native.Nat.{ℕ, ◌+◌, ◌-◌, ◌*◌, ◌^◌, ◌≤◌, ◌<◌}
 use native.Mathlib.Nat.{le_of_lt, le_trans, le_of_eq, mul-le-mul}
 use native.Mathlib.Omega.{arith}
+use native.Mathlib.Decide.{ℕ_discrete}
 use mir.Syntax.{w64}
 use mir.Val.{Fits}
+use lib.Dec.{eqb}
 use lib.ListN.{length}
 use Rattle.meaning.specs.Curve.{Bucket, ◌∈◌, bucket_at, NormalForm, reads}
 use Rattle.meaning.specs.Refusal.{InRange, AllInRange}
@@ -176,25 +177,27 @@ module _ (f : List Bucket) (form : NormalForm f) {last_rate last_burst : ℕ} (i
       let e : bucket last_rate last_burst ≡ r.bucket = is ∙ sym (last_numbered f at.0 end) ∙ sym at.2 in
       (omega arith, omega (arith, r.value_is, ap (λ (j : Bucket). j.burst) e))
 
-  -- where the last rate is not 0, it carries something,
-  pub carries_rate : (last_rate ≡ 0 → ⊥) → Tells (reads f 1 ≡ 0) (nat_eq last_rate 0)
-  carries_rate some =
-      rw (ne_eqb last_rate 0 some)
-      (record { yes_means = λ t. absurd (true≢false (sym t)); no_means = λ t none. some (nothing_last none).0 })
-
-  -- and where it is, the last burst tells
-  pub carries_burst : last_rate ≡ 0 → Tells (reads f 1 ≡ 0) (nat_eq last_burst 0)
+  -- and whether the last one is (0, 0) tells
+  pub carries_none : {answer : Bool} → answer ≡ eqb last_rate 0 && eqb last_burst 0 → Tells (reads f 1 ≡ 0) answer
   unfolding reads bucket_at
-  carries_burst flat =
-      record {
-        yes_means =
-            λ t.
-            omega (
-              arith,
-              eqb-true last_burst 0 t,
-              value_least f 1 1 (last_inside f form.some),
-              same_rate is,
-              ap (λ (j : Bucket). j.burst) is,
-            );
-        no_means = λ t none. true≢false (sym (eq-eqb last_burst 0 (nothing_last none).1) ∙ t);
-      }
+  carries_none e =
+      elim (ℕ_discrete last_rate 0) [
+        | no some ↦
+            rw (e, ne_eqb last_rate 0 some)
+            (record { yes_means = λ t. absurd (true≢false (sym t)); no_means = λ t none. some (nothing_last none).0 })
+        | yes flat ↦
+            rw (e, eq-eqb last_rate 0 flat)
+            (record {
+              yes_means =
+                  λ t.
+                  omega (
+                    arith,
+                    flat,
+                    eqb-true last_burst 0 t,
+                    value_least f 1 1 (last_inside f form.some),
+                    same_rate is,
+                    ap (λ (j : Bucket). j.burst) is,
+                  );
+              no_means = λ t none. true≢false (sym (eq-eqb last_burst 0 (nothing_last none).1) ∙ t);
+            })
+      ]

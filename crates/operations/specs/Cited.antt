@@ -1,4 +1,4 @@
--- What the contracts of this crate's own functions cite, beside the definitions of the crate meaning.
+-- What the contracts and laws of this crate cite, beside the definitions of the crate meaning.
 -- Assumes nothing.
 use Rattle.std.specs.Prelude.{◌≡◌, Bool, true, false, cond, List, [], ◌∷◌, map, ℕ, ◌+◌, ◌-◌, ◌/◌, ◌≤◌, ◌<◌, leb, ltb, length, drop}
 use Rattle.meaning.specs.Curve.{Bucket, bucket_at, NormalForm, added}

@@ -28,7 +28,7 @@ fn together(f: Curve<'_>, g: Curve<'_>, table: &mut [u64], part: Part) -> Result
 {
     let mut all = ArrayVec::new();
     gather::merge(f, g, &mut all);
-    settle(all.as_slice(), table, part)
+    settle(all.as_slice().as_flattened(), table, part)
 }
 
 // The lower of two curves: all their buckets, in normal form.
@@ -45,7 +45,7 @@ fn added(f: Curve<'_>, g: Curve<'_>, table: &mut [u64], part: Part) -> Result<us
 {
     let mut all = ArrayVec::new();
     adding::add(f, g, &mut all);
-    deliver(all.as_slice(), table, part)
+    deliver(all.as_slice().as_flattened(), table, part)
 }
 
 // Two curves added.

@@ -45,13 +45,15 @@ pub(crate) fn delay(curve: &[u64], latency: u64) -> Result<u64, Refusal>
     Ok(held(curve, latency))
 }
 
-// Beside a cross curve it is RANGE, unless the curve is refused with a smaller number.
+// Beside a cross curve it is RANGE, unless the curve is refused with a smaller number. Its latency is not looked at, since out of
+// range it is RANGE too.
 pub(crate) fn residual(latency: u64, cross: &[u64]) -> Result<Server, Refusal>
     ensures { ResidualOutcome cross.now (pure_delay latency) (code_of result) (server_told result) }
 {
-    let refused: Result<(), Refusal> = Err(Refusal::Range);
-    checks::both(checks::curve(cross), refused)?;
-    Err(Refusal::Range)
+    match checks::curve(cross) {
+        Ok(_) => Err(Refusal::Range),
+        Err(refusal) => Err(refusal.min(Refusal::Range)),
+    }
 }
 
 // The curve's buckets, each read `latency` ticks later, in normal form. (The first stands where a rate-latency server has its line.)
@@ -66,7 +68,7 @@ fn behind(curve: Curve<'_>, latency: u64, table: &mut [u64], part: Part) -> Resu
     };
     let mut raw = ArrayVec::new();
     gather::line_and_later(curve, 1, line, latency, &mut raw);
-    settle(raw.as_slice(), table, part)
+    settle(raw.as_slice().as_flattened(), table, part)
 }
 
 // A hop: the curve that leaves the pure delay, with backlog and delay; tested once.

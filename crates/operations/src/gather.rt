@@ -1,8 +1,7 @@
 // Raw buckets gathered in local memory: those of two curves merged, or those of a curve behind a server.
-ghost use Rattle.std.specs.Prelude.{◌≡◌, ◌+◌, ◌≤◌, ◌<◌, ◌^◌, [], ◌++◌, length, drop};
-ghost use Rattle.meaning.specs.Curve.{flat};
-ghost use Rattle.checks.specs.Cited.{bucket_of};
+ghost use Rattle.std.specs.Prelude.{◌≡◌, ◌+◌, ◌≤◌, ◌<◌, ◌^◌, [], length, map, drop};
 ghost use Rattle.checks.specs.Held.{curve_held};
+ghost use Rattle.settle.specs.Cited.{numbers};
 ghost use Rattle.operations.specs.Cited.{merged, NextOf, line_and_later};
 
 use arrayvec::ArrayVec;
@@ -42,9 +41,9 @@ fn next_of(f: Curve<'_>, g: Curve<'_>, i: usize, j: usize) -> Next
 }
 
 // The buckets of two curves, merged by falling rates, put into an empty list.
-pub(crate) fn merge(f: Curve<'_>, g: Curve<'_>, out: &mut ArrayVec<u64, 256>)
+pub(crate) fn merge(f: Curve<'_>, g: Curve<'_>, out: &mut ArrayVec<[u64; 2], 128>)
     requires { out.old.items ≡ [] }
-    ensures { out.new.items ≡ flat (merged (curve_held f.entry) (curve_held g.entry)) }
+    ensures { out.new.items ≡ map numbers (merged (curve_held f.entry) (curve_held g.entry)) }
 {
     let mut i = 0;
     for passed in 0..f.count() + g.count() {
@@ -55,8 +54,7 @@ pub(crate) fn merge(f: Curve<'_>, g: Curve<'_>, out: &mut ArrayVec<u64, 256>)
             }
             Next::Second(bucket) => bucket,
         };
-        out.push(bucket.rate);
-        out.push(bucket.burst);
+        out.push([bucket.rate, bucket.burst]);
     }
 }
 
@@ -67,18 +65,16 @@ pub(crate) fn line_and_later(
     first: usize,
     line: Bucket,
     latency: u64,
-    out: &mut ArrayVec<u64, 130>,
+    out: &mut ArrayVec<[u64; 2], 65>,
 )
     requires first_in_bounds { first ≤ length (curve_held curve) }
     requires latency_fits { latency < 2 ^ 20 }
     requires empty { out.old.items ≡ [] }
-    ensures { out.new.items ≡ flat (line_and_later (curve_held curve.entry) first line.rate line.burst latency) }
+    ensures { out.new.items ≡ map numbers (line_and_later (curve_held curve.entry) first line.rate line.burst latency) }
 {
-    out.push(line.rate);
-    out.push(line.burst);
+    out.push([line.rate, line.burst]);
     for k in first..curve.count() {
         let here = curve.bucket(k);
-        out.push(here.rate);
-        out.push(here.burst + here.rate * latency);
+        out.push([here.rate, here.burst + here.rate * latency]);
     }
 }

@@ -37,6 +37,5 @@ pub fn behind(
 ) -> Result<usize, Refusal>
     ensures { Answers (passing curve.now (server_of server)) part table.old table.new result }
 {
-    let hop = pass(curve, server, table, part)?;
-    Ok(hop.count)
+    Ok(pass(curve, server, table, part)?.count)
 }

@@ -1,6 +1,6 @@
 // The operations on curves and servers, over flat lists of 64-bit numbers. No public function asks anything of its operands; each
-// refuses what it cannot take, with the refusal that wins. A curve goes into a part of a lent table, or into all of a lent list. What
-// lies beyond it stays, and on a refusal everything does.
+// refuses what it cannot take, with the refusal that wins. A curve goes into a part of a lent table, and all of a lent list is one.
+// What lies beyond the part stays, and on a refusal everything does.
 #![tactic(auto)]
 
 mod adding;

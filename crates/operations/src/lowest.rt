@@ -6,7 +6,7 @@ ghost use Rattle.checks.specs.Cited.{Tells, nth};
 ghost use Rattle.checks.specs.Held.{curve_held};
 ghost use Rattle.operations.specs.Cited.{LeastOf};
 
-use checks::Curve;
+use checks::{Bucket, Curve};
 
 // The value at a tick of the bucket numbered k.
 fn value_of(curve: Curve<'_>, k: usize, tick: u64) -> u64
@@ -58,6 +58,5 @@ pub(crate) fn least_before(curve: Curve<'_>, end: usize, tick: u64) -> u64
 pub(crate) fn carries_nothing(curve: Curve<'_>) -> bool
     ensures { Tells (reads (curve_held curve.entry) 1 ≡ 0) result }
 {
-    let last = curve.last();
-    last.rate == 0 && last.burst == 0
+    curve.last() == Bucket { rate: 0, burst: 0 }
 }

@@ -89,6 +89,6 @@ impl<'a> Port<'a> {
         };
         let mut raw = ArrayVec::new();
         gather::line_and_later(self.curve, self.first, line, self.latency, &mut raw);
-        settle(raw.as_slice(), table, part)
+        settle(raw.as_slice().as_flattened(), table, part)
     }
 }

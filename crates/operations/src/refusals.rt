@@ -12,8 +12,7 @@ fn curve_and_rate<'a>(curve: &'a [u64], rate: u64, latency: u64) -> Result<Curve
     ensures verdict { Verdict (curve_lines curve.now or server_lines (port rate latency)) (code_of result) }
     ensures its_list { IfOk result (λ taken. taken.list ≡ curve.entry) }
 {
-    let tested = servers::rated_refusal(rate, latency);
-    let (curve, ()) = checks::both(checks::curve(curve), tested)?;
+    let (curve, ()) = checks::both(checks::curve(curve), servers::rated_refusal(rate, latency))?;
     Ok(curve)
 }
 

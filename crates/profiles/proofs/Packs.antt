@@ -21,7 +21,7 @@ use Rattle.checks.specs.Cited.{bucket_of, nth}
 use Rattle.checks.specs.declared.Bucket as held_bucket
 use Rattle.checks.proofs.Checks.{curve_ranged, curve_few}
 use Rattle.profiles.specs.Cited as cited
-use Rattle.profiles.specs.Cited.{packed_bits, AreBytes, WellPacked, padded, whole_bytes, RangedServer, head_bits}
+use Rattle.profiles.specs.Cited.{packed_bits, AreBytes, WellPacked, padded, whole_bytes, head_bits}
 use Rattle.profiles.proofs.Putting.{packed_length}
 
 -- ---- Bytes.

@@ -3,7 +3,7 @@
 use mathlib.Core.Path.{◌≡◌, refl, sym, ◌∙◌, ap, subst}
 use mathlib.Core.Logic.{inl, inr, ◌≢◌}
 use mathlib.Core.List.{List, []}
-use Prim.Native.Nat.{ℕ, ◌≤◌}
+use Prim.Native.Nat.{ℕ, ◌+◌, ◌≤◌}
 use native.Mathlib.Omega.{arith}
 use lib.Dec.{lit≤}
 use lib.ListN.{length}
@@ -81,26 +81,43 @@ module _ {file : List ℕ} (w : ServerFile file) where
   its_bytes : length file ≡ byte_size (kind_in file)
   its_bytes = w.frame.whole.is ∙ server_taken file w.kind
 
-  -- the first number lies in the file,
-  pub first_inside : InFile file 8 20
-  first_inside =
-      record { inside = omega (arith, its_bytes, (byte_size_bounds (kind_in file)).0); near = lit≤ tt; narrow = lit≤ tt }
+  -- behind edition and kind
+  module _ {here : List ℕ} {at : ℕ} (same : here ≡ file) (place : at ≡ 8) where
+    -- the first number lies in the file,
+    pub first_inside : InFile here at 20
+    first_inside =
+        record {
+          inside = rw same (omega (arith, place, its_bytes, (byte_size_bounds (kind_in file)).0));
+          near = omega (arith, place);
+          narrow = lit≤ tt;
+        }
 
-  module _ {kind : ℕ} (k : kind ≡ kind_in file) {first : ℕ} (f : first ≡ field file 8 20) where
-    -- and of kind 3 is the latency of a pure delay
-    pub held_delay : kind ≡ 3 → {s : Server} → s ≡ pure_delay first → s ≡ server_held file
-    held_delay is e = e ∙ ap pure_delay f ∙ sym (at_delay file (sym k ∙ is))
+    module _ {kind : ℕ} (k : kind ≡ kind_in file) {first : ℕ} (f : first ≡ field here at 20) where
+      -- it is the first of the two,
+      number_of : first ≡ field file 8 20
+      number_of = f ∙ cc (same, place)
 
-    module _ (other : kind ≡ 3 → ⊥) where
-      -- of another kind the latency lies behind it,
-      pub latency_inside : InFile file 28 20
-      latency_inside =
-          let six : byte_size (kind_in file) ≡ 6 = rw (ne_eqb (kind_in file) 3 (λ h. other (k ∙ h))) in
-          record { inside = omega (arith, its_bytes, six); near = lit≤ tt; narrow = lit≤ tt }
+      -- and of a pure delay the latency
+      pub held_delay : kind ≡ 3 → {s : Server} → s ≡ pure_delay first → s ≡ server_held file
+      held_delay is e = e ∙ ap pure_delay number_of ∙ sym (at_delay file (sym k ∙ is))
 
-      -- and it is the rate
-      pub held_rate : {latency : ℕ} → latency ≡ field file 28 20 → {s : Server} → s ≡ port first latency → s ≡ server_held file
-      held_rate l e = e ∙ cc (f, l) ∙ sym (at_rate file (λ h. other (k ∙ h)))
+      module _ (other : kind ≡ 3 → ⊥) {here' : List ℕ} {at' : ℕ} (same' : here' ≡ here) (place' : at' ≡ at + 20) where
+        -- of another kind the latency lies behind it,
+        pub latency_inside : InFile here' at' 20
+        latency_inside =
+            let six : byte_size (kind_in file) ≡ 6 = rw (ne_eqb (kind_in file) 3 (λ h. other (k ∙ h))) in
+            record {
+              inside = rw (same', same) (omega (arith, place', place, its_bytes, six));
+              near = omega (arith, place', place);
+              narrow = lit≤ tt;
+            }
+
+        -- and it is the rate
+        pub held_rate : {latency : ℕ} → latency ≡ field here' at' 20 → {s : Server} → s ≡ port first latency → s ≡ server_held file
+        held_rate {latency} l e =
+            let there : at' ≡ 28 = omega (arith, place', place) in
+            let behind : latency ≡ field file 28 20 = l ∙ rw (same', same, there) refl in
+            e ∙ cc (number_of, behind) ∙ sym (at_rate file (λ h. other (k ∙ h)))
 
   module _ {s : Server} (e : s ≡ server_held file) {code : ℕ} (v : of_servers.Tested s code) where
     -- the file holds that server

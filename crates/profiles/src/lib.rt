@@ -23,6 +23,9 @@ const FIRST_EDITION: u64 = 1;
 
 const LAST_EDITION: u64 = 2;
 
+// The bits of edition and kind, which every profile begins with.
+const HEADER_BITS: usize = 8;
+
 // The kind of a curve. (Those of servers are the crate servers' own.)
 pub const CURVE: u64 = 1;
 
@@ -44,10 +47,7 @@ pub struct Profile {
 fn has_kind(edition: u64, kind: u64) -> bool
     ensures { Tells (Known edition kind) result }
 {
-    if edition < FIRST_EDITION {
-        return false;
-    }
-    if LAST_EDITION < edition {
+    if edition < FIRST_EDITION || LAST_EDITION < edition {
         return false;
     }
     match kind {
@@ -62,7 +62,7 @@ fn has_kind(edition: u64, kind: u64) -> bool
 fn edition_in(input: &[u8]) -> u64
     ensures { result ≡ edition_of input.now }
 {
-    if input.len() == 0 {
+    if input.is_empty() {
         return 0;
     }
     bits::take_field(input, 0, 4)
@@ -73,7 +73,7 @@ fn edition_in(input: &[u8]) -> u64
 pub fn kind_in(input: &[u8]) -> u64
     ensures { result ≡ kind_in input.now }
 {
-    if input.len() == 0 {
+    if input.is_empty() {
         return 0;
     }
     bits::take_field(input, 4, 4)
@@ -86,7 +86,7 @@ fn count_in(input: &[u8]) -> usize
     if input.len() < 2 {
         return 1;
     }
-    bits::take_field(input, 8, 6) as usize + 1
+    bits::take_field(input, HEADER_BITS, 6) as usize + 1
 }
 
 // The bits before padding of the profile that an input begins with, by its kind and count.

@@ -31,7 +31,7 @@ impl<const N: usize> Model for BitWriter<N> {
 }
 
 impl<const N: usize> BitWriter<N> {
-    // A writer that has packed nothing.
+    // A writer that has packed nothing. (512 bytes are more than any file has, and keep positions small.)
     #[tactic(auto, using(crate::proofs::Putting::putting))]
     fn new() -> Self
         requires { N ≤ 512 }
@@ -52,14 +52,15 @@ impl<const N: usize> BitWriter<N> {
         ensures packed { self.new ≡ self.old ++ bits_of width x }
         ensures longer { length self.new ≡ length self.old + width }
     {
+        // `whole` is what was left with the field behind it; its low `pending` bits are in no byte yet.
         let whole = (self.left << width) + x;
         let end = self.at + width;
         let first = self.at / 8;
         let mut pending = self.at % 8 + width;
         let last = first + pending / 8;
-        for i in first..last {
+        for byte in &mut self.bytes[..][first..last] {
             pending -= 8;
-            self.bytes[i] = ((whole >> pending) % 256) as u8;
+            *byte = ((whole >> pending) % 256) as u8;
         }
         self.left = whole % (1u64 << pending);
         self.at = end;
@@ -82,7 +83,7 @@ impl<const N: usize> BitWriter<N> {
     }
 }
 
-// Packs what every profile begins with, edition and kind.
+// Packs what every profile begins with, edition and kind. (512 bytes are more than any file has, and keep positions small.)
 fn begun<const N: usize>(edition: u64, kind: u64) -> BitWriter<N>
     requires edition_fits { edition < 2 ^ 4 }
     requires kind_fits { kind < 2 ^ 4 }

@@ -6,7 +6,7 @@ ghost use Rattle.meaning.specs.Profile.{server_held, buckets_in, ReadPartOutcome
 ghost use Rattle.servers.specs.Cited.{server_of};
 ghost use Rattle.profiles.specs.Cited.{reading_of, ServerFile, CurveFile, Holds, ReadAlone};
 
-use crate::bits::{self, BitReader};
+use crate::bits::BitReader;
 use crate::{Held, Profile};
 use arrayvec::ArrayVec;
 use checks::Refusal;
@@ -14,17 +14,18 @@ use servers::Server;
 use settle::Part;
 use settle::deliver::deliver;
 
-// The server that a file holds: of kind 3 a pure delay, or else rate-latency.
+// The server that a file holds: a pure delay if its kind says so, or else rate-latency.
 #[tactic(auto, using(crate::proofs::Readings::server_held_rules))]
 fn held(file: &[u8]) -> Server
     requires { ServerFile file.now }
     ensures { server_of result ≡ server_held file.now }
 {
-    let first = bits::take_field(file, 8, 20);
+    let mut reader = BitReader::at(file, crate::HEADER_BITS);
+    let first = reader.take(20);
     if crate::kind_in(file) == servers::PURE_DELAY {
         return servers::pure_delay(first);
     }
-    servers::rated(first, bits::take_field(file, 28, 20))
+    servers::rated(first, reader.take(20))
 }
 
 // Reads a server.

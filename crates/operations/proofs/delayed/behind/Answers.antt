@@ -1,5 +1,6 @@
 -- The buckets, each read later, stand in local memory, and what `settle` leaves over them is what is asked. Assumes nothing.
 use Rattle.checks.proofs.Checks.{curve_some}
+use Rattle.operations.proofs.Pushing.{laid_out}
 use Rattle.operations.proofs.Delaying.{lined_later, first_product_fits, first_later_fits}
 use Rattle.operations.proofs.delayed.behind.Goals as goal
 
@@ -16,8 +17,7 @@ line_and_later-requires-clause-first_in_bounds c = curve_some _ c.args.curve.cle
 pub returns : goal.returns
 returns c =
     rw (
-      c.as_slice.ensures.value,
-      c.line_and_later.ensures,
+      laid_out _ c.line_and_later.ensures c.as_slice.ensures.value c.as_flattened.ensures.value,
       lined_later _ c.args.latency (curve_some _ c.args.curve.clear) c.bucket-first.ensures,
     ) at
     c.settle.ensures

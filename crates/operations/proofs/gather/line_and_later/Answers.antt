@@ -2,18 +2,17 @@ use Rattle.std.proofs.Common.{arith}
 use Rattle.checks.proofs.Checks.{curve_few}
 use Rattle.checks.specs.Held.{curve_held}
 use Rattle.operations.proofs.Lining.{lining_start, lining_room, lining_product_fits, lining_later_fits, lining_step, lining_end}
-use Rattle.operations.proofs.Pushing.{room_first, room_second}
 use Rattle.operations.proofs.Valuing.{tested}
 use Rattle.operations.proofs.gather.line_and_later.Goals as goal
 
 pub loop-k-init : goal.loop-k-init
 loop-k-init c =
-    lining_start (curve_held c.args.curve) c.requires.first_in_bounds c.requires.empty c.push.ensures.items c.push-2.ensures.items
+    lining_start (curve_held c.args.curve) c.requires.first_in_bounds c.requires.empty c.push.ensures.items
 
 pub push-requires-in-loop-k : goal.push-requires-in-loop-k
 push-requires-in-loop-k c = (
   omega arith,
-  room_first _ (lining_room c.loop-k.invariant (omega (arith, c.count-k-end.ensures, c.loop-k-test.true)) (curve_few _ c.args.curve.clear)),
+  lining_room c.loop-k.invariant (omega (arith, c.count-k-end.ensures, c.loop-k-test.true)) (curve_few _ c.args.curve.clear),
 )
 
 pub overflow_mul-here : goal.overflow_mul-here
@@ -26,17 +25,10 @@ overflow_add-here c =
     lining_later_fits (tested _ c.args.curve.clear) (omega (arith, c.count-k-end.ensures, c.loop-k-test.true)) c.requires.latency_fits
     c.bucket-here.ensures
 
-pub push-requires-in-loop-k-2 : goal.push-requires-in-loop-k-2
-push-requires-in-loop-k-2 c = (
-  omega arith,
-  room_second _ (lining_room c.loop-k.invariant (omega (arith, c.count-k-end.ensures, c.loop-k-test.true)) (curve_few _ c.args.curve.clear))
-      c.push-in-loop-k.ensures.len,
-)
-
 pub loop-k-preserved : goal.loop-k-preserved
 loop-k-preserved c =
     lining_step c.loop-k.invariant (omega (arith, c.count-k-end.ensures, c.loop-k-test.true)) c.bucket-here.ensures
-    c.push-in-loop-k.ensures.items c.push-in-loop-k-2.ensures.items
+    c.push-in-loop-k.ensures.items
 
 pub returns : goal.returns
 returns c = lining_end c.loop-k.invariant (omega (arith, c.count-k-end.ensures, c.loop-k-test.false))

@@ -1,7 +1,6 @@
 use Rattle.std.proofs.Common.{arith}
 use Rattle.checks.proofs.Checks.{curve_few}
 use Rattle.operations.proofs.Merging.{merging_room, merging_first, merging_second, merging_end}
-use Rattle.operations.proofs.Pushing.{room_first, room_second}
 use Rattle.operations.proofs.gather.merge.Goals as goal
 use Rattle.operations.proofs.gather.merge.Goals.{in-First, in-Second}
 
@@ -12,15 +11,8 @@ overflow_add-passed-end c =
 pub push-requires : goal.push-requires
 push-requires c = (
   omega arith,
-  room_first _ (merging_room c.loop-passed.invariant (curve_few _ c.args.f.clear) (curve_few _ c.args.g.clear)
-      (omega (arith, c.count.ensures, c.count-2.ensures, c.loop-passed-test.true))),
-)
-
-pub push-requires-in-loop-passed : goal.push-requires-in-loop-passed
-push-requires-in-loop-passed c = (
-  omega arith,
-  room_second _ (merging_room c.loop-passed.invariant (curve_few _ c.args.f.clear) (curve_few _ c.args.g.clear)
-      (omega (arith, c.count.ensures, c.count-2.ensures, c.loop-passed-test.true))) c.push.ensures.len,
+  merging_room c.loop-passed.invariant (curve_few _ c.args.f.clear) (curve_few _ c.args.g.clear)
+      (omega (arith, c.count.ensures, c.count-2.ensures, c.loop-passed-test.true)),
 )
 
 pub loop-passed-preserved : goal.loop-passed-preserved
@@ -28,11 +20,11 @@ loop-passed-preserved c =
     elim c.match-next_of.branch [
       | in-First w ↦
           rw w.i-is
-          (merging_first c.loop-passed.invariant c.push.ensures.items c.push-in-loop-passed.ensures.items
+          (merging_first c.loop-passed.invariant c.push.ensures.items
           (rw (← w.bucket-is) at w.in-First.ensures))
       | in-Second w ↦
           rw w.i-is
-          (merging_second c.loop-passed.invariant c.push.ensures.items c.push-in-loop-passed.ensures.items
+          (merging_second c.loop-passed.invariant c.push.ensures.items
           (rw (← w.bucket-is) at w.in-Second.ensures))
     ]
 

@@ -6,7 +6,7 @@ use Rattle.operations.proofs.refusals.curve_and_rate.Goals as goal
 pub returns-in_err-curve-clause-verdict : goal.returns-in_err-curve-clause-verdict
 returns-in_err-curve-clause-verdict c =
     rw (refused_as _ _ c.from_residual.ensures.1)
-    (with_server c.curve.ensures.verdict c.rated_refusal-tested.ensures c.in_err-curve.ensures.code)
+    (with_server c.curve.ensures.verdict c.rated_refusal.ensures c.in_err-curve.ensures.code)
 
 pub returns-clause-verdict : goal.returns-clause-verdict
-returns-clause-verdict c = with_server c.curve.ensures.verdict c.rated_refusal-tested.ensures c.in_ok-curve.ensures.code
+returns-clause-verdict c = with_server c.curve.ensures.verdict c.rated_refusal.ensures c.in_ok-curve.ensures.code
