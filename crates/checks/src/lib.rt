@@ -24,6 +24,7 @@ pub struct Bucket {
 }
 
 // The smaller of two codes as C has them, where 0 is none.
+#[tactic(auto, using(crate::proofs::Checks::smaller_code))]
 pub fn earlier(a: u64, b: u64) -> u64
     ensures { result ≡ earlier a b }
 {
@@ -65,6 +66,7 @@ pub fn within(list: &[u64], rates: u64, bursts: u64) -> bool
 }
 
 // How many buckets a curve's list has.
+#[tactic(auto, using(crate::proofs::Buckets::nths))]
 pub fn bucket_count(curve: &[u64]) -> usize
     ensures { result ≡ length (curve_of curve.now) }
 {
@@ -72,6 +74,7 @@ pub fn bucket_count(curve: &[u64]) -> usize
 }
 
 // The bucket numbered k, from 0, of a curve's list; (0, 0) where there is none.
+#[tactic(auto, using(crate::proofs::Buckets::nths))]
 pub fn bucket_at(curve: &[u64], k: usize) -> Bucket
     ensures { bucket_of result ≡ nth (curve_of curve.now) k }
 {
