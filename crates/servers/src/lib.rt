@@ -53,6 +53,7 @@ impl Kind {
     }
 
     // The joined kind of two servers whose latencies are in range.
+    #[tactic(auto, using(crate::proofs::Joins::combining))]
     fn join(self, next: Kind) -> Kind
         requires first_late { Late (of_kind self) }
         requires second_late { Late (of_kind next) }
@@ -150,6 +151,7 @@ pub fn pure_delay(latency: u64) -> Server
 }
 
 // The server that three numbers stand for: where they are no server's, one that is out of its range.
+#[tactic(auto, using(crate::proofs::Joins::naming))]
 pub fn named(kind: u64, rate: u64, latency: u64) -> Server
     ensures { server_of result ≡ server_named (numbers kind rate latency) }
 {
