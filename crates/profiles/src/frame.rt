@@ -11,6 +11,7 @@ use crate::bits;
 use checks::Refusal;
 
 // Tests edition and kind.
+#[tactic(auto, using(crate::proofs::Framing::heads))]
 fn header(file: &[u8]) -> Result<(), Refusal>
     ensures { Tested file.now (RightHeader file.now) (code_of result) }
 {
@@ -31,6 +32,7 @@ fn is_whole(file: &[u8]) -> bool
 }
 
 // The number that the padding bits spell.
+#[tactic(auto, using(crate::proofs::Framing::pads))]
 fn padding_in(file: &[u8]) -> u64
     requires { Whole file.now }
     ensures { result ≡ spelt (padding file.now) }

@@ -58,6 +58,7 @@ fn has_kind(edition: u64, kind: u64) -> bool
 }
 
 // The edition of the profile that an input begins with. (Of an empty one it is 0.)
+#[tactic(auto, using(crate::proofs::Header::heading))]
 fn edition_in(input: &[u8]) -> u64
     ensures { result ≡ edition_of input.now }
 {
@@ -68,6 +69,7 @@ fn edition_in(input: &[u8]) -> u64
 }
 
 // The kind of the profile that an input begins with. (Of an empty one it is 0.)
+#[tactic(auto, using(crate::proofs::Header::heading))]
 pub fn kind_in(input: &[u8]) -> u64
     ensures { result ≡ kind_in input.now }
 {
@@ -88,6 +90,7 @@ fn count_in(input: &[u8]) -> usize
 }
 
 // The bits before padding of the profile that an input begins with, by its kind and count.
+#[tactic(auto, using(crate::proofs::Header::sizes))]
 fn bits_taken(input: &[u8]) -> usize
     ensures { BitsTaken input.now result }
 {

@@ -32,6 +32,7 @@ impl<const N: usize> Model for BitWriter<N> {
 
 impl<const N: usize> BitWriter<N> {
     // A writer that has packed nothing.
+    #[tactic(auto, using(crate::proofs::Putting::putting))]
     fn new() -> Self
         requires { N ≤ 512 }
         ensures { result ≡ [] }
@@ -73,6 +74,7 @@ impl<const N: usize> BitWriter<N> {
     }
 
     // The bytes that are full.
+    #[tactic(auto, using(crate::proofs::Packs::pads_up))]
     pub(crate) fn bytes(&self) -> &[u8]
         ensures { result.now ≡ whole_bytes self.now }
     {
@@ -96,6 +98,7 @@ fn begun<const N: usize>(edition: u64, kind: u64) -> BitWriter<N>
 }
 
 // Packs a rate-latency server, which fills its last byte.
+#[tactic(auto, using(crate::proofs::Packs::server_packs))]
 fn pack_rated(edition: u64, rate: u64, latency: u64) -> BitWriter<6>
     requires { RangedServer edition (port rate latency) }
     ensures { result ≡ padded (server_bits edition (port rate latency)) }
@@ -107,6 +110,7 @@ fn pack_rated(edition: u64, rate: u64, latency: u64) -> BitWriter<6>
 }
 
 // Packs a pure delay, with zero bits up to the byte's end.
+#[tactic(auto, using(crate::proofs::Packs::server_packs))]
 fn pack_delay(edition: u64, latency: u64) -> BitWriter<6>
     requires { RangedServer edition (pure_delay latency) }
     ensures { result ≡ padded (server_bits edition (pure_delay latency)) }
@@ -129,6 +133,7 @@ pub(crate) fn pack_server(edition: u64, server: Server) -> BitWriter<6>
 }
 
 // Packs edition, kind and count of a curve.
+#[tactic(auto, using(crate::proofs::Packs::curve_packs))]
 fn pack_head(edition: u64, count: usize) -> BitWriter<482>
     requires edition_fits { edition < 2 ^ 4 }
     requires some { 1 ≤ count }

@@ -15,6 +15,7 @@ use settle::Part;
 use settle::deliver::deliver;
 
 // The server that a file holds: of kind 3 a pure delay, or else rate-latency.
+#[tactic(auto, using(crate::proofs::Readings::server_held_rules))]
 fn held(file: &[u8]) -> Server
     requires { ServerFile file.now }
     ensures { server_of result ≡ server_held file.now }
