@@ -79,6 +79,7 @@ fn step_at(
 }
 
 // The place behind the profile that stands at a place of the input, as far as there are bytes.
+#[tactic(auto, using(crate::proofs::Hops::behind_is))]
 fn behind_profile(input: &[u8], at: usize) -> usize
     requires { at ≤ length input.now }
     ensures { BehindProfile input.now at result }
