@@ -50,6 +50,7 @@ impl Text {
     }
 
     // Puts a space and a number in decimal.
+    #[tactic(auto, using(crate::proofs::Putting::putting))]
     fn put_number(&mut self, n: u64)
         requires { Room self.old (32 ∷ digits 20 n) }
         ensures { self.new ≡ self.old ++ (32 ∷ digits 20 n) }
@@ -80,6 +81,7 @@ impl Text {
     }
 
     // Puts the line of a hop: its number, and backlog and delay there.
+    #[tactic(auto, unfolding(meaning::specs::Route::bytes, meaning::specs::Route::hop_text))]
     pub(crate) fn put_hop(&mut self, number: u64, backlog: u64, delay: u64)
         requires { Room self.old (hop_text number (figures backlog delay)) }
         ensures { self.new ≡ self.old ++ hop_text number (figures backlog delay) }
@@ -88,6 +90,7 @@ impl Text {
     }
 
     // Puts the line of the route.
+    #[tactic(auto, unfolding(meaning::specs::Route::bytes, meaning::specs::Route::route_text))]
     pub(crate) fn put_route(&mut self, backlog: u64, delay: u64)
         requires { Room self.old (route_text (figures backlog delay)) }
         ensures { self.new ≡ self.old ++ route_text (figures backlog delay) }
