@@ -1,3 +1,5 @@
+-- `in_form` answers no at the first bucket that is not flatter and later than the one before, and yes behind the last.
+-- Assumes nothing.
 use Rattle.checks.proofs.Forms.{rising}
 use Rattle.std.proofs.Common.{rules}
 use Rattle.checks.proofs.in_form.Goals as goal

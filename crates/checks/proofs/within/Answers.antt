@@ -1,3 +1,5 @@
+-- `within` answers no at the first bucket that is out of range, and yes behind the last.
+-- Assumes nothing.
 use Rattle.checks.proofs.Ranges.{ranging}
 use Rattle.std.proofs.Common.{rules}
 use Rattle.checks.proofs.within.Goals as goal

@@ -1,3 +1,5 @@
+-- `add` puts the sum of the two buckets at hand, steps to the next crossing, and ends where both are at their last bucket.
+-- Assumes nothing.
 use Rattle.std.proofs.Common.{arith}
 use Rattle.checks.proofs.Checks.{curve_some, curve_few, curve_ranged}
 use Rattle.checks.specs.Held.{curve_held}

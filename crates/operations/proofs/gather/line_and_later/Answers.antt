@@ -1,3 +1,5 @@
+-- `line_and_later` puts the line, then each later bucket in turn.
+-- Assumes nothing.
 use Rattle.std.proofs.Common.{arith}
 use Rattle.checks.proofs.Checks.{curve_few}
 use Rattle.checks.specs.Held.{curve_held}

@@ -1,3 +1,5 @@
+-- `merge` puts the steeper of the two first buckets that are left, until none is.
+-- Assumes nothing.
 use Rattle.std.proofs.Common.{arith}
 use Rattle.checks.proofs.Checks.{curve_few}
 use Rattle.operations.proofs.Merging.{merging_room, merging_first, merging_second, merging_end}

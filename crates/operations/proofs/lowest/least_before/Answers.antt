@@ -1,3 +1,5 @@
+-- `least_before` goes down while the values fall: where one does not, none before it is lower.
+-- Assumes nothing.
 use Rattle.meaning.proofs.Outcome.Answers.{clear_form}
 use Rattle.operations.proofs.Walking.{backwards_stop}
 use Rattle.operations.proofs.lowest.least_before.Goals as goal

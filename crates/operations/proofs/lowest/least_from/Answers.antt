@@ -1,3 +1,5 @@
+-- `least_from` goes up while the values fall: where one does not, none behind it is lower.
+-- Assumes nothing.
 use Rattle.std.proofs.Common.{arith}
 use Rattle.meaning.proofs.Outcome.Answers.{clear_form}
 use Rattle.checks.proofs.Checks.{curve_few}

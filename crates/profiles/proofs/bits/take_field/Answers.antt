@@ -1,3 +1,5 @@
+-- `take_field` reads the bytes that a field touches, and cuts off the bits before and behind it.
+-- Assumes nothing.
 use Rattle.profiles.proofs.Taking.{taking}
 use Rattle.std.proofs.Common.{rules}
 use Rattle.profiles.proofs.bits.take_field.Goals as goal

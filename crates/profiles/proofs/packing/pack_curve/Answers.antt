@@ -1,3 +1,5 @@
+-- `pack_curve` packs the head, then each bucket in turn, then zero bits up to the byte's end.
+-- Assumes nothing.
 use Rattle.std.proofs.Common.{rules, arith}
 use Rattle.checks.proofs.Checks.{curve_some, curve_few}
 use Rattle.profiles.proofs.Packs.{curve_packs, buckets_start}

@@ -1,3 +1,5 @@
+-- `decode` takes a rate and a burst for each bucket, in turn.
+-- Assumes nothing.
 use Rattle.std.proofs.Common.{rules, lit<}
 use Rattle.profiles.proofs.Decoding.{decoding, decoding_start, decoding_step, rate_room, burst_room}
 use Rattle.profiles.proofs.reader.decode.Goals as goal

@@ -1,3 +1,5 @@
+-- `choose` keeps each candidate that is useful, in turn, until none is left or there is no room for one.
+-- Assumes nothing.
 use Rattle.settle.proofs.Picking.{picking}
 use Rattle.std.proofs.Common.{rules}
 use Rattle.settle.proofs.search.choose.Goals as goal

@@ -1,3 +1,5 @@
+-- `put` writes the bytes that become full, and keeps the bits that are left over.
+-- Assumes nothing.
 use Rattle.profiles.proofs.Putting.{putting, put_inside, put_start, put_well, put_end, put_longer}
 use Rattle.std.proofs.Common.{rules, arith}
 use Rattle.profiles.proofs.packing.BitWriter.put.Goals as goal

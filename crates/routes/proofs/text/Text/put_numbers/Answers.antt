@@ -1,3 +1,5 @@
+-- `put_numbers` puts each number in turn, a space before it.
+-- Assumes nothing.
 use Rattle.routes.proofs.Putting.{counting}
 use Rattle.std.proofs.Common.{rules}
 use Rattle.routes.proofs.text.Text.put_numbers.Goals as goal

@@ -1,3 +1,5 @@
+-- `next_in_order` passes over the buckets that are no flatter than the bound, to the first that is.
+-- Assumes nothing.
 use Rattle.settle.proofs.Ordered.{passing}
 use Rattle.std.proofs.Common.{rules}
 use Rattle.settle.proofs.candidates.Candidates.next_in_order.Goals as goal
