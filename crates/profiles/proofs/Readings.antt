@@ -52,17 +52,7 @@ pub frame_refused :
     → x ≡ refused_reading code → ReadPartOutcome file at room table table x
 frame_refused {file} t some e = rw e (refused_file file (omega (arith, some)) (t.refused some))
 
--- It is not:
-module _ {file : List ℕ} (t : Tested file (Framed file) 0) {kind : ℕ} (k : kind ≡ kind_in file) where
-  -- the file is a server's,
-  pub framed_server : (kind ≡ 1 → ⊥) → ServerFile file
-  framed_server other = record { frame = t.right refl; kind = λ h. other (k ∙ h) }
-
-  -- or a curve's
-  pub framed_curve : kind ≡ 1 → CurveFile file
-  framed_curve is = record { frame = t.right refl; kind = sym k ∙ is }
-
--- then what the profile is refused with is the file's refusal
+-- it is not: then what the profile is refused with is the file's refusal
 profile_verdict : {file : List ℕ} → Framed file → {code : ℕ} → Verdict (profile_lines (profile_of file)) code → Verdict (file_lines file) code
 profile_verdict {file} w v = profile_decides file w.header w.whole.is w.no_one v
 

@@ -42,6 +42,7 @@ fn padding_in(file: &[u8]) -> u64
 }
 
 // Tests header, byte count and padding.
+#[tactic(auto, using(crate::proofs::Framing::frames))]
 pub(crate) fn refusal(file: &[u8]) -> Result<(), Refusal>
     ensures { Tested file.now (Framed file.now) (code_of result) }
 {

@@ -42,6 +42,7 @@ pub(crate) fn server(file: &[u8]) -> Result<Profile, Refusal>
 }
 
 // Takes the rates and bursts of so many buckets from a file, one after the other, into an empty list.
+#[tactic(auto, using(crate::proofs::Decoding::decoding))]
 fn decode(file: &[u8], count: usize, pairs: &mut ArrayVec<u64, 128>)
     requires holds { Holds file.now count }
     requires empty { pairs.old.items ≡ [] }

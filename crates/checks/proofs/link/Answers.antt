@@ -6,6 +6,3 @@ use Rattle.checks.proofs.link.Goals as goal
 
 pub returns-then-rate-eq0 : goal.returns-then-rate-eq0
 returns-then-rate-eq0 c = search (number_lines, rules)
-
-pub returns : goal.returns
-returns c = search (number_lines, rules)

@@ -2,18 +2,12 @@
 -- Assumes nothing.
 use Rattle.std.proofs.Common.{refl}
 use Rattle.checks.proofs.Numbers.{number_some, refused_as}
-use Rattle.profiles.proofs.Readings.{frame_refused, framed_server, framed_curve}
+use Rattle.profiles.proofs.Readings.{frame_refused}
 use Rattle.profiles.proofs.read.Goals as goal
 
 pub returns-in_err-refusal : goal.returns-in_err-refusal
 returns-in_err-refusal c =
     rw (refused_as _ _ c.from_residual.ensures.1) (frame_refused c.in_err-refusal.ensures (number_some _) refl)
 
-pub server-requires : goal.server-requires
-server-requires c = framed_server c.in_ok-refusal.ensures c.kind_in.ensures c.if-kind_in-ne-CURVE.true
-
 pub returns-then-kind_in-ne-CURVE : goal.returns-then-kind_in-ne-CURVE
 returns-then-kind_in-ne-CURVE c = c.server.ensures.outcome _ _ _
-
-pub curve-requires : goal.curve-requires
-curve-requires c = framed_curve c.in_ok-refusal.ensures c.kind_in.ensures c.if-kind_in-ne-CURVE.false

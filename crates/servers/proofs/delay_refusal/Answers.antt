@@ -5,6 +5,3 @@ use Rattle.servers.proofs.delay_refusal.Goals as goal
 
 pub returns-then-latency-ge-LATENCY_END : goal.returns-then-latency-ge-LATENCY_END
 returns-then-latency-ge-LATENCY_END c = search (server_line_rules, rules)
-
-pub returns : goal.returns
-returns c = search (server_line_rules, rules)

@@ -5,6 +5,3 @@ use Rattle.servers.proofs.rated_refusal.Goals as goal
 
 pub returns-then-rate-eq0 : goal.returns-then-rate-eq0
 returns-then-rate-eq0 c = search (server_line_rules, rules)
-
-pub returns : goal.returns
-returns c = search (server_line_rules, rules)

@@ -1,20 +1,14 @@
 -- `decode` takes a rate and a burst for each bucket, in turn.
 -- Assumes nothing.
-use Rattle.std.proofs.Common.{rules, lit<}
-use Rattle.profiles.proofs.Decoding.{decoding, decoding_start, decoding_step, rate_room, burst_room}
+use Rattle.std.proofs.Common.{lit<}
+use Rattle.profiles.proofs.Decoding.{decoding_start, decoding_step, rate_room, burst_room}
 use Rattle.profiles.proofs.reader.decode.Goals as goal
 
 pub loop-init : goal.loop-init
 loop-init c = decoding_start c.requires.holds c.requires.empty c.at-reader.ensures.file c.at-reader.ensures.at
 
-pub take-requires : goal.take-requires
-take-requires c = search (decoding, rules)
-
 pub push-requires : goal.push-requires
 push-requires c = (lit< tt, rate_room c.loop.invariant c.loop-test.true)
-
-pub take-requires-in-loop : goal.take-requires-in-loop
-take-requires-in-loop c = search (decoding, rules)
 
 pub push-requires-in-loop : goal.push-requires-in-loop
 push-requires-in-loop c = (lit< tt, burst_room c.loop.invariant c.loop-test.true _ _ c.push.ensures.items)
@@ -24,6 +18,3 @@ loop-preserved c =
     decoding_step c.loop.invariant c.loop-test.true c.take.ensures.same_file c.take.ensures.passed c.take.ensures.value
     c.take-in-loop.ensures.value c.push.ensures.items c.push-in-loop.ensures.items c.take-in-loop.ensures.same_file
     c.take-in-loop.ensures.passed
-
-pub returns : goal.returns
-returns c = search (decoding, rules)
