@@ -12,6 +12,3 @@ put_number-requires c = search (counting, rules)
 
 pub loop-n-preserved : goal.loop-n-preserved
 loop-n-preserved c = search (counting, rules)
-
-pub returns : goal.returns
-returns c = search (counting, rules)
