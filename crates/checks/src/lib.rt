@@ -23,7 +23,7 @@ pub struct Bucket {
     pub burst: u64,
 }
 
-// The smaller of two codes as C has them, where 0 is none.
+// The smaller of two codes as C has them, where 0 is none. (Code here tests two operands by `both`.)
 #[tactic(auto, using(crate::proofs::Checks::smaller_code))]
 pub fn earlier(a: u64, b: u64) -> u64
     ensures { result ≡ earlier a b }
@@ -78,7 +78,7 @@ pub fn bucket_count(curve: &[u64]) -> usize
 pub fn bucket_at(curve: &[u64], k: usize) -> Bucket
     ensures { bucket_of result ≡ nth (curve_of curve.now) k }
 {
-    if curve.len() / limits::BUCKET_NUMBERS <= k {
+    if bucket_count(curve) <= k {
         return Bucket { rate: 0, burst: 0 };
     }
     let at = limits::BUCKET_NUMBERS * k;

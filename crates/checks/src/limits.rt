@@ -1,4 +1,5 @@
 // Sizes, and the ends of ranges.
+
 // A curve's list has two numbers for each bucket: its rate and its burst.
 pub const BUCKET_NUMBERS: usize = 2;
 

@@ -43,7 +43,7 @@ abbrev pub server_told : Result held_server.Server Refusal → Server
 server_told (Ok s) = server_of s
 server_told (Err r) = no_server
 
--- An answer as C gets it: its code, and its server.
+-- An answer as a code and a server.
 pub record Tells (answer : Result held_server.Server Refusal) (told : ServerAnswer) : Type 0 where
   pub code_is : told.code ≡ code_of answer
   pub server_is : server_of told.server ≡ server_told answer

@@ -27,14 +27,14 @@ pub struct Server {
     pub kind: Kind,
 }
 
-// A server as C gets it: a code, 0 for an answer, and the server, rate-latency (0, 0) for a refusal.
+// An answer as a code and a server: 0 and the server, or a refusal's number and rate-latency (0, 0).
 #[derive(Clone, Copy, Debug, PartialEq, Eq)]
 pub struct ServerAnswer {
     pub code: u64,
     pub server: Server,
 }
 
-// A server as a caller passes it and gets it. A pure delay has rate 0.
+// A server in three numbers, from which C's struct is filled. A pure delay has rate 0.
 #[derive(Clone, Copy, Debug, PartialEq, Eq)]
 pub struct Numbers {
     pub kind: u64,
@@ -120,7 +120,7 @@ impl Server {
     }
 }
 
-// The answer of a question that a server answers, as C gets it.
+// The same answer as a code and a server.
 impl From<Result<Server, Refusal>> for ServerAnswer {
     ghost from_gives = { Tells };
 

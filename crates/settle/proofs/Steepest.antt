@@ -161,9 +161,6 @@ pub ruleset bettering = (keeps_past, keeps_told, takes_first, takes_told)
 pub record Sought (bound : ℕ) (pairs : List (List ℕ)) (best : Option held.Bucket) (i : ℕ) : Type 0 where
   pub best_is : Best bound (buckets_in (take i pairs)) best
 
-pub sought_start : {bound : ℕ} {pairs : List (List ℕ)} → Sought bound pairs None 0
-sought_start = record { best_is = record { told = λ k m. absurd (Memᴰ.not-nil m) } }
-
 module _ {bound : ℕ} {pairs : List (List ℕ)} {best : Option held.Bucket} {i : ℕ} (w : Sought bound pairs best i) where
   pub sought_step :
       {pair : List ℕ} {next : held.Bucket} {after : Option held.Bucket} → i < length pairs → pair ≡ get_or pairs i pair

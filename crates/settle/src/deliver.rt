@@ -5,8 +5,9 @@ ghost use Rattle.settle.specs.Parts.{Answers};
 use crate::part::Part;
 use checks::{Refusal, limits};
 
-// Buckets handed over as they stand, as a curve in a part of a table. A step of the operations, and no entry point: nothing is
-// asked of the buckets but that there is one. Answers how many they are.
+// Buckets handed over as they stand, as a curve in a part of a table. It takes any list: LIST where no whole buckets come out of it,
+// LARGE where they are no curve's, ROOM where the part is too short. A step of the operations, and no entry point. Answers how many
+// buckets they are.
 pub fn deliver(pairs: &[u64], table: &mut [u64], part: Part) -> Result<usize, Refusal>
     ensures { Answers (delivering pairs.now) part table.old table.new result }
 {
