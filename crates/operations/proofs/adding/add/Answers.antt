@@ -12,7 +12,7 @@ overflow_add-buckets c =
 
 pub loop-init : goal.loop-init
 loop-init c =
-    summing_start (curve_held c.args.f) (curve_held c.args.g) (curve_some _ c.args.f.clear) (curve_some _ c.args.g.clear) c.requires
+    summing_start (curve_held c.args.f) (curve_held c.args.g) (curve_some _ c.args.f.clear) (curve_some _ c.args.g.clear) c.new-all.ensures
 
 pub overflow_add-a : goal.overflow_add-a
 overflow_add-a c =
