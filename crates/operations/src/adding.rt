@@ -60,7 +60,7 @@ pub(crate) fn add(f: Curve<'_>, g: Curve<'_>) -> ArrayVec<[u64; 2], 65>
         all.push([a.rate + b.rate, a.burst + b.burst]);
         // Both are at their last bucket.
         if buckets <= i + j + 2 {
-            return all;
+            break;
         }
         let step = step_of(f, g, i, j);
         i += step.first;

@@ -45,5 +45,5 @@ loop-preserved c =
     summing_step c.loop.invariant (omega (arith, c.loop-test.true)) c.bucket-a.ensures c.bucket-b.ensures c.push.ensures.items
     c.step_of-step.ensures
 
-pub returns : goal.returns
-returns c = summing_full c.loop.invariant (omega (arith, c.loop-test.false))
+pub returns-after-loop : goal.returns-after-loop
+returns-after-loop c = summing_full c.loop.invariant (omega (arith, c.loop-test.false))
