@@ -1,6 +1,6 @@
 // Two curves added by merging: both lists are walked once, from crossing to crossing, and each bucket on the way is the sum of the
 // two at hand.
-ghost use Rattle.std.specs.Prelude.{◌≡◌, ◌<◌, [], length, map, take};
+ghost use Rattle.std.specs.Prelude.{◌≡◌, ◌<◌, length, map, take};
 ghost use Rattle.meaning.specs.Computed.{merged_sum};
 ghost use Rattle.checks.specs.Held.{curve_held};
 ghost use Rattle.settle.specs.Cited.{numbers};
@@ -46,24 +46,25 @@ fn step_of(f: Curve<'_>, g: Curve<'_>, i: usize, j: usize) -> Step
     }
 }
 
-// The buckets of the sum, put into an empty list, up to the 65th: a curve has no more than 64.
-pub(crate) fn add(f: Curve<'_>, g: Curve<'_>, out: &mut ArrayVec<[u64; 2], 65>)
-    requires { out.old.items ≡ [] }
-    ensures { out.new.items ≡ map numbers (take 65 (merged_sum (curve_held f.entry) (curve_held g.entry))) }
+// The buckets of the sum, up to the 65th: a curve has no more than 64.
+pub(crate) fn add(f: Curve<'_>, g: Curve<'_>) -> ArrayVec<[u64; 2], 65>
+    ensures { result.items ≡ map numbers (take 65 (merged_sum (curve_held f.entry) (curve_held g.entry))) }
 {
     let buckets = f.count() + g.count();
+    let mut all = ArrayVec::new();
     let mut i = 0;
     let mut j = 0;
     for _ in 0..=limits::BUCKETS {
         let a = f.bucket(i);
         let b = g.bucket(j);
-        out.push([a.rate + b.rate, a.burst + b.burst]);
+        all.push([a.rate + b.rate, a.burst + b.burst]);
         // Both are at their last bucket.
         if buckets <= i + j + 2 {
-            return;
+            break;
         }
         let step = step_of(f, g, i, j);
         i += step.first;
         j += step.second;
     }
+    all
 }

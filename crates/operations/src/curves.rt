@@ -9,7 +9,6 @@ ghost use Rattle.settle.specs.Parts.{Answers};
 ghost use Rattle.operations.specs.Cited.{merged};
 
 use crate::{adding, gather};
-use arrayvec::ArrayVec;
 use checks::{Curve, Refusal};
 use settle::deliver::deliver;
 use settle::{Part, settle};
@@ -26,8 +25,7 @@ pub fn normalise(raw: &[u64], table: &mut [u64], part: Part) -> Result<usize, Re
 fn together(f: Curve<'_>, g: Curve<'_>, table: &mut [u64], part: Part) -> Result<usize, Refusal>
     ensures { Answers (settling (flat (merged (curve_held f.entry) (curve_held g.entry)))) part table.old table.new result }
 {
-    let mut all = ArrayVec::new();
-    gather::merge(f, g, &mut all);
+    let all = gather::merge(f, g);
     settle(all.as_slice().as_flattened(), table, part)
 }
 
@@ -43,8 +41,7 @@ pub fn lower(f: &[u64], g: &[u64], table: &mut [u64], part: Part) -> Result<usiz
 fn added(f: Curve<'_>, g: Curve<'_>, table: &mut [u64], part: Part) -> Result<usize, Refusal>
     ensures { Answers (delivering (flat (take 65 (merged_sum (curve_held f.entry) (curve_held g.entry))))) part table.old table.new result }
 {
-    let mut all = ArrayVec::new();
-    adding::add(f, g, &mut all);
+    let all = adding::add(f, g);
     deliver(all.as_slice().as_flattened(), table, part)
 }
 

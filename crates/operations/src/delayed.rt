@@ -14,7 +14,6 @@ ghost use Rattle.operations.specs.Told.{HopTold};
 use crate::hops::Hop;
 use crate::lowest::{carries_nothing, least_from};
 use crate::{gather, refusals};
-use arrayvec::ArrayVec;
 use checks::{Bucket, Curve, Refusal};
 use servers::Server;
 use settle::{Part, settle};
@@ -66,8 +65,7 @@ fn behind(curve: Curve<'_>, latency: u64, table: &mut [u64], part: Part) -> Resu
         rate: first.rate,
         burst: first.burst + first.rate * latency,
     };
-    let mut raw = ArrayVec::new();
-    gather::line_and_later(curve, 1, line, latency, &mut raw);
+    let raw = gather::line_and_later(curve, 1, line, latency);
     settle(raw.as_slice().as_flattened(), table, part)
 }
 

@@ -1,5 +1,5 @@
 // Raw buckets gathered in local memory: those of two curves merged, or those of a curve behind a server.
-ghost use Rattle.std.specs.Prelude.{◌≡◌, ◌+◌, ◌≤◌, ◌<◌, ◌^◌, [], length, map, drop};
+ghost use Rattle.std.specs.Prelude.{◌≡◌, ◌+◌, ◌≤◌, ◌<◌, ◌^◌, length, map, drop};
 ghost use Rattle.checks.specs.Held.{curve_held};
 ghost use Rattle.settle.specs.Cited.{numbers};
 ghost use Rattle.operations.specs.Cited.{merged, NextOf, line_and_later};
@@ -40,11 +40,11 @@ fn next_of(f: Curve<'_>, g: Curve<'_>, i: usize, j: usize) -> Next
     Next::Second(b)
 }
 
-// The buckets of two curves, merged by falling rates, put into an empty list.
-pub(crate) fn merge(f: Curve<'_>, g: Curve<'_>, out: &mut ArrayVec<[u64; 2], 128>)
-    requires { out.old.items ≡ [] }
-    ensures { out.new.items ≡ map numbers (merged (curve_held f.entry) (curve_held g.entry)) }
+// The buckets of two curves, merged by falling rates.
+pub(crate) fn merge(f: Curve<'_>, g: Curve<'_>) -> ArrayVec<[u64; 2], 128>
+    ensures { result.items ≡ map numbers (merged (curve_held f.entry) (curve_held g.entry)) }
 {
+    let mut all = ArrayVec::new();
     let mut i = 0;
     for passed in 0..f.count() + g.count() {
         let bucket = match next_of(f, g, i, passed - i) {
@@ -54,27 +54,28 @@ pub(crate) fn merge(f: Curve<'_>, g: Curve<'_>, out: &mut ArrayVec<[u64; 2], 128
             }
             Next::Second(bucket) => bucket,
         };
-        out.push([bucket.rate, bucket.burst]);
+        all.push([bucket.rate, bucket.burst]);
     }
+    all
 }
 
-// The raw buckets of a curve behind a server, put into an empty list: the line, then (r, b + r * latency) for each bucket from `first`
-// on, so that rates fall.
+// The raw buckets of a curve behind a server: the line, then (r, b + r * latency) for each bucket from `first` on, so that rates
+// fall.
 pub(crate) fn line_and_later(
     curve: Curve<'_>,
     first: usize,
     line: Bucket,
     latency: u64,
-    out: &mut ArrayVec<[u64; 2], 65>,
-)
+) -> ArrayVec<[u64; 2], 65>
     requires first_in_bounds { first ≤ length (curve_held curve) }
     requires latency_fits { latency < 2 ^ 20 }
-    requires empty { out.old.items ≡ [] }
-    ensures { out.new.items ≡ map numbers (line_and_later (curve_held curve.entry) first line.rate line.burst latency) }
+    ensures { result.items ≡ map numbers (line_and_later (curve_held curve.entry) first line.rate line.burst latency) }
 {
-    out.push([line.rate, line.burst]);
+    let mut raw = ArrayVec::new();
+    raw.push([line.rate, line.burst]);
     for k in first..curve.count() {
         let here = curve.bucket(k);
-        out.push([here.rate, here.burst + here.rate * latency]);
+        raw.push([here.rate, here.burst + here.rate * latency]);
     }
+    raw
 }

@@ -8,7 +8,6 @@ ghost use Rattle.operations.specs.Walks.{FirstSlow};
 use crate::excess::{excess, first_slow};
 use crate::lowest::{carries_nothing, least_from};
 use crate::{gather, refusals};
-use arrayvec::ArrayVec;
 use checks::{Bucket, Curve, Refusal};
 use settle::{Part, settle};
 
@@ -87,8 +86,7 @@ impl<'a> Port<'a> {
             rate: self.rate,
             burst: self.rate * self.latency + excess,
         };
-        let mut raw = ArrayVec::new();
-        gather::line_and_later(self.curve, self.first, line, self.latency, &mut raw);
+        let raw = gather::line_and_later(self.curve, self.first, line, self.latency);
         settle(raw.as_slice().as_flattened(), table, part)
     }
 }

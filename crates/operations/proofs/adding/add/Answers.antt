@@ -12,7 +12,7 @@ overflow_add-buckets c =
 
 pub loop-init : goal.loop-init
 loop-init c =
-    summing_start (curve_held c.args.f) (curve_held c.args.g) (curve_some _ c.args.f.clear) (curve_some _ c.args.g.clear) c.requires
+    summing_start (curve_held c.args.f) (curve_held c.args.g) (curve_some _ c.args.f.clear) (curve_some _ c.args.g.clear) c.new-all.ensures
 
 pub overflow_add-a : goal.overflow_add-a
 overflow_add-a c =
@@ -45,5 +45,5 @@ loop-preserved c =
     summing_step c.loop.invariant (omega (arith, c.loop-test.true)) c.bucket-a.ensures c.bucket-b.ensures c.push.ensures.items
     c.step_of-step.ensures
 
-pub returns : goal.returns
-returns c = summing_full c.loop.invariant (omega (arith, c.loop-test.false))
+pub returns-after-loop : goal.returns-after-loop
+returns-after-loop c = summing_full c.loop.invariant (omega (arith, c.loop-test.false))

@@ -6,4 +6,4 @@ use Rattle.operations.proofs.Summing.{Summing}
 use Rattle.operations.proofs.adding.add.Given as goal
 
 abbrev pub invariant-loop : goal.invariant-loop
-invariant-loop l = Summing (curve_held l.f) (curve_held l.g) l.counter l.i l.j l.out.items
+invariant-loop l = Summing (curve_held l.f) (curve_held l.g) l.counter l.i l.j l.all.items

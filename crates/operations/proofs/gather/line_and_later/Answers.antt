@@ -9,7 +9,7 @@ use Rattle.operations.proofs.gather.line_and_later.Goals as goal
 
 pub loop-k-init : goal.loop-k-init
 loop-k-init c =
-    lining_start (curve_held c.args.curve) c.requires.first_in_bounds c.requires.empty c.push.ensures.items
+    lining_start (curve_held c.args.curve) c.requires.first_in_bounds c.new-raw.ensures c.push.ensures.items
 
 pub push-requires-in-loop-k : goal.push-requires-in-loop-k
 push-requires-in-loop-k c = (

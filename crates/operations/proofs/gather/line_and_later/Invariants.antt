@@ -5,4 +5,4 @@ use Rattle.operations.proofs.Lining.{Lining}
 use Rattle.operations.proofs.gather.line_and_later.Given as goal
 
 abbrev pub invariant-loop-k : goal.invariant-loop-k
-invariant-loop-k l = Lining (curve_held l.curve) l.first l.fn.line.rate l.fn.line.burst l.latency l.k l.out.items
+invariant-loop-k l = Lining (curve_held l.curve) l.first l.fn.line.rate l.fn.line.burst l.latency l.k l.raw.items

@@ -6,4 +6,4 @@ use Rattle.operations.proofs.Merging.{Merging}
 use Rattle.operations.proofs.gather.merge.Given as goal
 
 abbrev pub invariant-loop-passed : goal.invariant-loop-passed
-invariant-loop-passed l = Merging (curve_held l.f) (curve_held l.g) l.passed l.i l.out.items
+invariant-loop-passed l = Merging (curve_held l.f) (curve_held l.g) l.passed l.i l.all.items
