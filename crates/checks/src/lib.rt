@@ -78,7 +78,7 @@ pub fn bucket_count(curve: &[u64]) -> usize
 pub fn bucket_at(curve: &[u64], k: usize) -> Bucket
     ensures { bucket_of result ≡ nth (curve_of curve.now) k }
 {
-    if bucket_count(curve) <= k {
+    if curve.len() / limits::BUCKET_NUMBERS <= k {
         return Bucket { rate: 0, burst: 0 };
     }
     let at = limits::BUCKET_NUMBERS * k;

@@ -1,6 +1,6 @@
 // The profile in a file whose frame is right: a server, or a curve that is decoded into local memory, tested, and only then handed
 // over.
-ghost use Rattle.std.specs.Prelude.{◌≡◌, []};
+ghost use Rattle.std.specs.Prelude.{◌≡◌};
 ghost use Rattle.meaning.specs.Curve.{flat};
 ghost use Rattle.meaning.specs.Profile.{server_held, buckets_in, ReadPartOutcome};
 ghost use Rattle.servers.specs.Cited.{server_of};
@@ -41,18 +41,19 @@ pub(crate) fn server(file: &[u8]) -> Result<Profile, Refusal>
     })
 }
 
-// Takes the rates and bursts of so many buckets from a file, one after the other, into an empty list.
+// The rates and bursts of so many buckets of a file, one after the other.
 #[tactic(auto, using(crate::proofs::Decoding::decoding))]
-fn decode(file: &[u8], count: usize, pairs: &mut ArrayVec<u64, 128>)
-    requires holds { Holds file.now count }
-    requires empty { pairs.old.items ≡ [] }
-    ensures { pairs.new.items ≡ flat (buckets_in file.now 14 count) }
+fn decode(file: &[u8], count: usize) -> ArrayVec<u64, 128>
+    requires { Holds file.now count }
+    ensures { result.items ≡ flat (buckets_in file.now 14 count) }
 {
+    let mut pairs = ArrayVec::new();
     let mut reader = BitReader::at(file, 14);
     for _ in 0..count {
         pairs.push(reader.take(20));
         pairs.push(reader.take(40));
     }
+    pairs
 }
 
 // Reads a curve, into a part of a table.
@@ -60,8 +61,7 @@ pub(crate) fn curve(file: &[u8], table: &mut [u64], part: Part) -> Result<Profil
     requires { CurveFile file.now }
     ensures { ReadPartOutcome file.now part.at part.room table.old table.new (reading_of result) }
 {
-    let mut pairs = ArrayVec::new();
-    decode(file, crate::count_in(file), &mut pairs);
+    let pairs = decode(file, crate::count_in(file));
     checks::curve(pairs.as_slice())?;
     let count = deliver(pairs.as_slice(), table, part)?;
     Ok(Profile {

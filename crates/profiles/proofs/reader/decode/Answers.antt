@@ -5,7 +5,7 @@ use Rattle.profiles.proofs.Decoding.{decoding_start, decoding_step, rate_room, b
 use Rattle.profiles.proofs.reader.decode.Goals as goal
 
 pub loop-init : goal.loop-init
-loop-init c = decoding_start c.requires.holds c.requires.empty c.at-reader.ensures.file c.at-reader.ensures.at
+loop-init c = decoding_start c.requires c.new-pairs.ensures c.at-reader.ensures.file c.at-reader.ensures.at
 
 pub push-requires : goal.push-requires
 push-requires c = (lit< tt, rate_room c.loop.invariant c.loop-test.true)
