@@ -13,8 +13,8 @@ use native.Mathlib.Omega.{arith}
 use borrow.Author.Tests.{lt-ltb}
 use lib.ListN.{length, get_or, drop, length-append, drop_of_length-le}
 use lib.Seq.{append_snoc}
-use Rattle.std.proofs.Common.{Option, Some, None, Ok, Err}
-use Rattle.arrayvec.specs.ArrayVec.{ArrayVec}
+use Rattle.std.proofs.Common.{Option, Some, None, Result, Ok, Err}
+use Rattle.std.specs.Result.{IsOk, IsErr}
 use Rattle.std.proofs.lemmas.List.{map-append, length-map}
 use Rattle.meaning.proofs.Order.{not_above}
 use Rattle.meaning.specs.Curve.{Bucket, ◌∈◌, bucket_at, Falling, Useful}
@@ -25,7 +25,6 @@ use Rattle.checks.specs.Cited.{bucket_of}
 use Rattle.settle.specs.Order.{bucket_in, buckets_in, Ahead, First, Best, Leave}
 use Rattle.settle.specs.Cited.{Wide, AllWide, ends_of, Leaves, numbers, Starts, Comes, Bounds, Chose}
 use Rattle.checks.specs.declared.Bucket as held_bucket
-use Rattle.checks.specs.declared.refusal.Refusal.TheVariants.{Large}
 use Rattle.settle.specs.declared.candidates.Candidates.{Candidates}
 use Rattle.settle.specs.declared.ends.Ends as held_ends
 use Rattle.settle.proofs.Pairs.{pairs_from}
@@ -216,19 +215,24 @@ module _ {pairs : List (List ℕ)} {c : held_bucket.Bucket} {ends : held_ends.En
 
 -- ---- The buckets picked.
 
+-- no result is both
+not_both : {T E : Type 0} (r : Result T E) → IsOk r → IsErr r → ⊥
+not_both (Ok x) o e = cc e
+not_both (Err x) o e = cc o
+
 -- The pairs chosen are the front of the normal form, with the rates from the bound up, and the candidates that are left are all the
 -- buckets below it.
-pub record Picked (pairs : List (List ℕ)) (chosen : ArrayVec (List ℕ)) (left : Candidates) : Type 0 where
+pub record Picked (pairs chosen : List (List ℕ)) (left : Candidates) : Type 0 where
   pub wide : AllWide (buckets_in pairs)
   pub all : Leave left.bound (buckets_in pairs) (buckets_in left.left.now)
   pub front : List Bucket
   pub rest : List Bucket
   pub parted : Parted (buckets_in pairs) left.bound front rest
-  pub stands : chosen.items ≡ map numbers front
+  pub stands : chosen ≡ map numbers front
 
 pub picked_start :
-    {pairs : List (List ℕ)} {chosen : ArrayVec (List ℕ)} {left : Candidates} → AllWide (buckets_in pairs) → chosen.items ≡ []
-    → Starts pairs left → Picked pairs chosen left
+    {pairs chosen : List (List ℕ)} {left : Candidates} → AllWide (buckets_in pairs) → chosen ≡ [] → Starts pairs left
+    → Picked pairs chosen left
 picked_start {pairs} wide none s =
     record {
       wide = wide;
@@ -239,21 +243,18 @@ picked_start {pairs} wide none s =
       stands = none;
     }
 
-module _ {pairs : List (List ℕ)} {chosen : ArrayVec (List ℕ)} {left : Candidates} (w : Picked pairs chosen left) where
+module _ {pairs chosen : List (List ℕ)} {left : Candidates} (w : Picked pairs chosen left) where
   module _ {found : Option held_bucket.Bucket} {after : Candidates} (comes : Comes left found after) where
     -- no bucket is left below the bound
-    pub picked_end : found ≡ None → Chose (buckets_in pairs) (Ok chosen)
-    picked_end e =
+    pub picked_end : found ≡ None → {E : Type 0} → Chose {Refused = E} (buckets_in pairs) chosen (Ok tt)
+    picked_end e {E} =
         let none : Best left.bound (buckets_in left.left.now) None = rw e at comes.best in
         record {
-          whole = λ o is.
-              let same : o ≡ chosen = cc is in
-              ap (λ (v : ArrayVec (List ℕ)). v.items) same
-              ∙ w.stands
+          whole = λ o.
+              w.stands
               ∙ ap (map numbers)
               (parted_end w.parted (λ k m. not_above (λ b. absurd (omega (arith, none.told k (w.all.kept k m b))))));
           over_many = λ o. cc o;
-          is_large = λ o. cc o;
         }
 
     module _ (bounds : Bounds found after) {c : held_bucket.Bucket} (e : found ≡ Some c) where
@@ -303,10 +304,11 @@ module _ {pairs : List (List ℕ)} {chosen : ArrayVec (List ℕ)} {left : Candid
 
         -- one more than 64
         pub picked_over :
-            length chosen.items ≡ 64 → Chose (buckets_in pairs) (Err Large)
-        picked_over full =
+            length chosen ≡ 64 → {E : Type 0} {r : Result (Unit {0}) E} → IsErr r → {after : List (List ℕ)}
+            → Chose (buckets_in pairs) after r
+        picked_over full {E} {r} err =
             record {
-              whole = λ o is. cc is;
+              whole = λ o. absurd (not_both r o err);
               over_many = λ o.
                   omega (
                     arith,
@@ -316,12 +318,11 @@ module _ {pairs : List (List ℕ)} {chosen : ArrayVec (List ℕ)} {left : Candid
                     length-append (w.front ++ bucket_of c ∷ []) taken.left,
                     ap length taken.parted.whole,
                   );
-              is_large = λ o. refl;
             }
 
         -- it is written behind the others
         pub picked_take :
-            {more : ArrayVec (List ℕ)} → more.items ≡ chosen.items ++ (c.rate ∷ c.burst ∷ []) ∷ [] → Picked pairs more after
+            {more : List (List ℕ)} → more ≡ chosen ++ (c.rate ∷ c.burst ∷ []) ∷ [] → Picked pairs more after
         picked_take grown =
             record {
               wide = w.wide;

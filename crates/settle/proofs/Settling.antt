@@ -1,8 +1,8 @@
 -- From raw buckets to the outcome in a part of a table: what the tests say one after the other, and the normal form that is
 -- chosen, handed over.
 -- Assumes nothing.
-use mathlib.Core.Path.{◌≡◌, refl, subst}
-use mathlib.Core.Bool.{Bool, true, false}
+use mathlib.Core.Path.{◌≡◌, refl, sym, ◌∙◌, ap, subst}
+use mathlib.Core.Bool.{Bool, true, false, not}
 use mathlib.Core.Logic.{inl, inr}
 use mathlib.Core.List.{List}
 use Prim.Native.Nat.{ℕ, ◌/◌, ◌%◌, ◌≤◌}
@@ -11,19 +11,16 @@ use lib.Dec.{lit≤}
 use lib.ListN.{length}
 use Rattle.meaning.specs.Curve.{buckets}
 use Rattle.meaning.specs.Computed.{normal}
-use Rattle.meaning.specs.Refusal.{LIST, RANGE, number, ◌when◌, Clear, Verdict, AllWithin, Uneven, PartOutcome}
+use Rattle.meaning.specs.Refusal.{LIST, RANGE, LARGE, number, ◌when◌, Clear, Verdict, AllWithin, Uneven, PartOutcome}
 use Rattle.meaning.proofs.Order.{not_apart}
 use Rattle.meaning.proofs.Curve.Unique.{normal_of_unique}
 use Rattle.meaning.proofs.Curve.Normal.{normal_is}
 use Rattle.meaning.proofs.Outcome.Outcomes.{Single, Same, one_part_outcome, from_when, up_to_when, up_to_or, line_hit, line_miss, refused_first, refused_then, refuse_in_part, too_large}
 use Rattle.checks.specs.Cited.{Tells}
-use Rattle.checks.specs.Table.{code_of}
-use Rattle.checks.specs.declared.refusal.Refusal.{Refusal}
 use Rattle.std.specs.Simd.{first_chunks}
 use Rattle.std.specs.List.{flat_map}
-use Rattle.std.proofs.Common.{Result, Ok}
-use Rattle.std.specs.Result.{IsErr}
-use Rattle.arrayvec.specs.ArrayVec.{ArrayVec}
+use Rattle.std.proofs.Common.{Result}
+use Rattle.std.specs.Result.{is_ok, is_err}
 use Rattle.settle.specs.Order.{buckets_in}
 use Rattle.settle.specs.Cited.{AllWide, settling, delivering, Chose}
 use Rattle.settle.proofs.Pairs.{pairs_are, numbers_are}
@@ -101,28 +98,28 @@ module _ (raw : List ℕ) where
 
 module _
     (raw : List ℕ) (a : Accepted raw) {pairs : List (List ℕ)} (p : pairs ≡ first_chunks 2 (length raw / 2) raw)
-    {x : Result (ArrayVec (List ℕ)) Refusal} (c : Chose (buckets_in pairs) x)
+    {chosen : List (List ℕ)} {E : Type 0} {all : Result (Unit {0}) E} (c : Chose (buckets_in pairs) chosen all)
   where
-    chose : Chose (buckets raw) x
+    chose : Chose (buckets raw) chosen all
     chose = rw (p, pairs_are raw) at c
 
     -- the normal form has too many buckets
     pub settled_many :
-        IsErr x → {at room : ℕ} {table : List ℕ} → PartOutcome (settling raw) at room table table (code_of x) 0
+        {refused : Bool} → refused ≡ is_err all → refused ≡ true → {at room : ℕ} {table : List ℕ}
+        → PartOutcome (settling raw) at room table table (number LARGE) 0
     unfolding number
-    settled_many many =
-        rw (chose.is_large many) (untouched (too_large (settling raw) _ a.clear (right raw a) (inl (chose.over_many many))))
+    settled_many t many = untouched (too_large (settling raw) _ a.clear (right raw a) (inl (chose.over_many (sym t ∙ many))))
 
     -- what comes of handing its buckets over comes of settling
     pub settled :
-        {chosen : ArrayVec (List ℕ)} → x ≡ Ok chosen → {items : List (List ℕ)} → items ≡ chosen.items
-        → {list table after : List ℕ} {at room code count : ℕ} → list ≡ flat_map (λ (pair : List ℕ). pair) items → PartOutcome (delivering list) at room table after code count
+        {refused : Bool} → is_ok all ≡ not refused → refused ≡ false → {items : List (List ℕ)} → items ≡ chosen → {list table after : List ℕ} {at room code count : ℕ}
+        → list ≡ flat_map (λ (pair : List ℕ). pair) items → PartOutcome (delivering list) at room table after code count
         → PartOutcome (settling raw) at room table after code count
-    settled {chosen} few same laid o =
+    settled t few same laid o =
         handed_over (settling raw) (normal (buckets raw)) a.clear (right raw a)
         (λ g n. single raw g (normal (buckets raw)) n (right raw a))
         (normal_is (buckets raw) a.some).form.some
-        (rw (laid, same, chose.whole chosen few, numbers_are (normal (buckets raw))) at o)
+        (rw (laid, same, chose.whole (t ∙ ap not few), numbers_are (normal (buckets raw))) at o)
 
 -- One outcome for every input: the code, the count and the whole table are fixed.
 pub one_settling :

@@ -1,13 +1,10 @@
 -- What the contracts of this crate's own functions cite, beside the definitions of the crate meaning.
 -- Assumes nothing.
-use Rattle.std.specs.Prelude.{◌≡◌, false, cond, ltb, map, List, [], ◌∷◌, ◌++◌, ℕ, ◌-◌, ◌*◌, ◌^◌, ◌≤◌, ◌<◌, length, take, drop, Option, Some, MatchOption, Result, Ok, IsErr}
-use Rattle.arrayvec.specs.ArrayVec.{ArrayVec}
+use Rattle.std.specs.Prelude.{◌≡◌, false, cond, ltb, map, List, [], ◌∷◌, ◌++◌, ℕ, ◌-◌, ◌*◌, ◌^◌, ◌≤◌, ◌<◌, length, take, drop, Option, Some, MatchOption, Result, IsOk, IsErr}
 use Rattle.meaning.specs.Curve.{Bucket, buckets, NormalOf}
 use Rattle.meaning.specs.Computed.{Ends, is_open, normal}
-use Rattle.meaning.specs.Refusal.{LIST, RANGE, LARGE, ROOM, number, ◌when◌, ◌or◌, Within, AllWithin, Uneven, Question, over, part}
-use Rattle.checks.specs.Table.{code_of}
+use Rattle.meaning.specs.Refusal.{LIST, RANGE, ROOM, number, ◌when◌, ◌or◌, Within, AllWithin, Uneven, Question, over, part}
 use Rattle.checks.specs.declared.Bucket as held_bucket
-use Rattle.checks.specs.declared.refusal.Refusal as held_refusal
 use Rattle.settle.specs.Order.{buckets_in, Best, Leave}
 use Rattle.settle.specs.declared.candidates.Candidates.{Candidates}
 use Rattle.settle.specs.declared.ends.Ends as held_ends
@@ -77,11 +74,10 @@ pub record Bounds (found : Option held_bucket.Bucket) (after : Candidates) : Typ
 abbrev pub numbers : Bucket → List ℕ
 numbers k = k.rate ∷ k.burst ∷ []
 
--- The pairs chosen are the normal form's; or it has over 64 buckets, which is LARGE.
-pub record Chose (raw : List Bucket) (x : Result (ArrayVec (List ℕ)) held_refusal.Refusal) : Type 0 where
-  pub whole : (chosen : ArrayVec (List ℕ)) → x ≡ Ok chosen → chosen.items ≡ map numbers (normal raw)
-  pub over_many : IsErr x → 64 < length (normal raw)
-  pub is_large : IsErr x → code_of x ≡ number LARGE
+-- The pairs chosen are the normal form's, or it has over 64 buckets.
+pub record Chose {Refused : Type 0} (raw : List Bucket) (chosen : List (List ℕ)) (all : Result (Unit {0}) Refused) : Type 0 where
+  pub whole : IsOk all → chosen ≡ map numbers (normal raw)
+  pub over_many : IsErr all → 64 < length (normal raw)
 
 -- The answer stands in the part of the table; or the part is too short for it, which is ROOM, and the table stays.
 pub record Placed (answer : List ℕ) (at room : ℕ) (before after : List ℕ) (code : ℕ) : Type 0 where

@@ -17,6 +17,7 @@ ghost use Rattle.settle.specs.Parts.{Answers};
 use crate::deliver::deliver;
 pub use crate::part::Part;
 use crate::search::choose;
+use arrayvec::ArrayVec;
 use checks::{Refusal, limits};
 
 // Tests raw buckets, of which there may be any number.
@@ -35,6 +36,9 @@ pub fn settle(raw: &[u64], table: &mut [u64], part: Part) -> Result<usize, Refus
     ensures { Answers (settling raw.now) part table.old table.new result }
 {
     refusal(raw)?;
-    let chosen = choose(raw.as_chunks::<2>().0)?;
+    let mut chosen = ArrayVec::new();
+    if choose(raw.as_chunks::<2>().0, &mut chosen).is_err() {
+        return Err(Refusal::Large);
+    }
     deliver(chosen.as_slice().as_flattened(), table, part)
 }

@@ -1,20 +1,24 @@
 // The search for the useful buckets among raw ones, in local memory: candidates by falling rates, and over each a search through
 // all buckets that is left at the first proof that the candidate is useless.
+ghost use Rattle.std.specs.Prelude.{◌≡◌, []};
 ghost use Rattle.settle.specs.Order.{buckets_in};
 ghost use Rattle.settle.specs.Cited.{AllWide, Chose};
 
 use crate::candidates::{Candidates, bucket};
 use crate::ends::Ends;
-use arrayvec::ArrayVec;
-use checks::{Refusal, limits};
+use arrayvec::{ArrayVec, CapacityError};
+use checks::limits;
 
-// The useful buckets by falling rates, or LARGE at the 65th. The search over a candidate ends at the first bucket that leaves no
-// time.
-pub(crate) fn choose(pairs: &[[u64; 2]]) -> Result<ArrayVec<[u64; 2], { limits::BUCKETS }>, Refusal>
-    requires { AllWide (buckets_in pairs.now) }
-    ensures { Chose (buckets_in pairs.now) result }
+// The useful buckets by falling rates, put into an empty vector, which refuses the 65th. The search over a candidate ends at the
+// first bucket that leaves no time.
+pub(crate) fn choose(
+    pairs: &[[u64; 2]],
+    chosen: &mut ArrayVec<[u64; 2], { limits::BUCKETS }>,
+) -> Result<(), CapacityError<[u64; 2]>>
+    requires wide { AllWide (buckets_in pairs.now) }
+    requires empty { chosen.old.items ≡ [] }
+    ensures { Chose (buckets_in pairs.now) chosen.new.items result }
 {
-    let mut chosen = ArrayVec::new();
     let mut candidates = Candidates::of(pairs);
     'next: while let Some(candidate) = candidates.next() {
         let mut ends = Ends::every_time();
@@ -25,9 +29,7 @@ pub(crate) fn choose(pairs: &[[u64; 2]]) -> Result<ArrayVec<[u64; 2], { limits::
             };
             ends = left;
         }
-        let Ok(()) = chosen.try_push([candidate.rate, candidate.burst]) else {
-            return Err(Refusal::Large);
-        };
+        chosen.try_push([candidate.rate, candidate.burst])?;
     }
-    Ok(chosen)
+    Ok(())
 }

@@ -1,7 +1,7 @@
 -- `choose` keeps each candidate that is useful, in turn, until none is left or there is no room for one.
 -- Assumes nothing.
 use Rattle.settle.proofs.Picking.{picking}
-use Rattle.std.proofs.Common.{◌≡◌, length, rules}
+use Rattle.std.proofs.Common.{rules}
 use Rattle.settle.proofs.search.choose.Goals as goal
 
 pub next-init : goal.next-init
@@ -22,10 +22,8 @@ loop-pair-preserved c = search (picking, rules)
 pub next-preserved : goal.next-preserved
 next-preserved c = search (picking, rules)
 
-pub returns-in_default-try_push : goal.returns-in_default-try_push
-returns-in_default-try_push c =
-    let full : length c.next.chosen.items ≡ 64 = rw c.in_default-try_push.is at c.try_push.ensures.full in
-    search (picking, full, rules)
+pub returns-in_err-try_push : goal.returns-in_err-try_push
+returns-in_err-try_push c = search (picking, c.in_err-try_push.ensures.full, c.from_residual.ensures.0, rules)
 
 pub returns : goal.returns
 returns c = search (picking, rules)

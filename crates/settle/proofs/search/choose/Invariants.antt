@@ -9,7 +9,7 @@ abbrev pub invariant-loop-pair : goal.invariant-loop-pair
 invariant-loop-pair l = Searched l.pairs l.candidate l.ends l.pair-index
 
 abbrev pub invariant-next : goal.invariant-next
-invariant-next l = Picked l.pairs l.chosen l.candidates
+invariant-next l = Picked l.pairs l.chosen.items l.candidates
 
 abbrev pub decreases-next : goal.decreases-next
 decreases-next l = l.candidates.bound
