@@ -1,7 +1,7 @@
 -- The tests for refusals: the lines of the table put together, in the order of their numbers, and what it says of a list that none holds.
 -- Assumes nothing.
 use mathlib.Core.Path.{◌≡◌, refl, sym, ◌∙◌, subst}
-use mathlib.Core.Logic.{◌⊎◌, inl, inr, ⊎_elim}
+use mathlib.Core.Logic.{◌⊎◌, inl, inr}
 use mathlib.Core.Bool.{Bool, true, false}
 use mathlib.Core.List.{List}
 use Prim.Native.Nat.{ℕ, ◌%◌, ◌^◌, ◌≤◌, ◌<◌, min}
@@ -116,10 +116,6 @@ module _ (l : List ℕ) where
   -- its length is odd
   pub even_odd : length l % 2 ≡ 1 → Verdict (LIST when (Uneven 2 l)) (number LIST)
   even_odd h = line_hit LIST (inr (λ e. omega arith))
-
-  -- it is neither
-  pub even_right : (length l ≡ 0 → ⊥) → (length l % 2 ≡ 1 → ⊥) → Verdict (LIST when (Uneven 2 l)) 0
-  even_right some even = line_miss (λ h. ⊎_elim some (λ odd. odd (omega (arith, even))) h)
 
 module _ (l : List ℕ) {code : ℕ} (v : Verdict (LIST when (Uneven 2 l)) code) where
   -- it has no bucket, or half of one

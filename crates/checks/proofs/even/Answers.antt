@@ -1,6 +1,6 @@
 -- `even` tests that a list is not empty and has no half of a bucket.
 -- Assumes nothing.
-use Rattle.checks.proofs.Checks.{even_empty, even_odd, even_right}
+use Rattle.checks.proofs.Checks.{even_empty, even_odd}
 use Rattle.checks.proofs.even.Goals as goal
 
 pub returns-then-n-eq0 : goal.returns-then-n-eq0
@@ -8,6 +8,3 @@ returns-then-n-eq0 c = even_empty _ c.if-n-eq0.true
 
 pub returns-then-n-eq1 : goal.returns-then-n-eq1
 returns-then-n-eq1 c = even_odd _ c.if-n-eq1.true
-
-pub returns : goal.returns
-returns c = even_right _ c.if-n-eq0.false c.if-n-eq1.false

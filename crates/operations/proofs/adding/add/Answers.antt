@@ -3,7 +3,7 @@
 use Rattle.std.proofs.Common.{arith}
 use Rattle.checks.proofs.Checks.{curve_some, curve_few, curve_ranged}
 use Rattle.checks.specs.Held.{curve_held}
-use Rattle.operations.proofs.Summing.{summing_start, summing_full, summing_room, summing_rate_fits, summing_burst_fits, summing_last, summing_step}
+use Rattle.operations.proofs.Summing.{summing_start, summing_room, summing_rate_fits, summing_burst_fits, summing_last, summing_step}
 use Rattle.operations.proofs.adding.add.Goals as goal
 
 pub overflow_add-buckets : goal.overflow_add-buckets
@@ -44,6 +44,3 @@ pub loop-preserved : goal.loop-preserved
 loop-preserved c =
     summing_step c.loop.invariant (omega (arith, c.loop-test.true)) c.bucket-a.ensures c.bucket-b.ensures c.push.ensures.items
     c.step_of-step.ensures
-
-pub returns-after-loop : goal.returns-after-loop
-returns-after-loop c = summing_full c.loop.invariant (omega (arith, c.loop-test.false))

@@ -3,7 +3,7 @@
 use Rattle.std.proofs.Common.{arith}
 use Rattle.checks.proofs.Checks.{curve_few}
 use Rattle.checks.specs.Held.{curve_held}
-use Rattle.operations.proofs.Lining.{lining_start, lining_room, lining_product_fits, lining_later_fits, lining_step, lining_end}
+use Rattle.operations.proofs.Lining.{lining_start, lining_room, lining_product_fits, lining_later_fits, lining_step}
 use Rattle.operations.proofs.Valuing.{tested}
 use Rattle.operations.proofs.gather.line_and_later.Goals as goal
 
@@ -31,6 +31,3 @@ pub loop-k-preserved : goal.loop-k-preserved
 loop-k-preserved c =
     lining_step c.loop-k.invariant (omega (arith, c.count-k-end.ensures, c.loop-k-test.true)) c.bucket-here.ensures
     c.push-in-loop-k.ensures.items
-
-pub returns : goal.returns
-returns c = lining_end c.loop-k.invariant (omega (arith, c.count-k-end.ensures, c.loop-k-test.false))
