@@ -16,15 +16,16 @@ use std::{array, io};
 // The part of a table that answers go into: the numbers from 3 on, of which there are five.
 const MIDDLE: Part = Part { at: 3, room: 5 };
 
-// The words, and the code and the count of an answer.
+// The words, and the code and the count of an answer, each put out by itself.
 fn show_told(rt: &impl Print, words: &str, answer: Result<usize, Refusal>) -> io::Result<()> {
-    match answer {
-        Ok(count) => print!(rt; "{words} 0 {count}"),
-        Err(refusal) => {
-            let code = u64::from(refusal);
-            print!(rt; "{words} {code} 0")
-        }
-    }
+    let code = match answer {
+        Ok(_) => 0,
+        Err(refusal) => u64::from(refusal),
+    };
+    let count = answer.unwrap_or(0);
+    print!(rt; "{words}")?;
+    print!(rt; " {code}")?;
+    print!(rt; " {count}")
 }
 
 // A line: the words, the code, the count, and that many buckets of the list.
