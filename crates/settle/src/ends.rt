@@ -92,18 +92,18 @@ impl Ends {
         Some(self)
     }
 
-    // The times that are left once bucket j is seen too, if there are any. A steeper one is above c only past their crossing, a
-    // flatter one only up to it, and one of the same rate never, or always.
+    // The times that are left once bucket j is seen too, if there are any. A flatter one is above c only up to their crossing, a
+    // steeper one only past it, and one of the same rate never, or always.
     pub(crate) fn narrowed(self, c: Bucket, j: Bucket) -> Option<Ends>
         requires candidate { Wide (bucket_of c) }
         requires next { Wide (bucket_of j) }
         ensures { Leaves (narrowed (bucket_of c) (bucket_of j) (ends_of self)) result }
     {
-        if c.rate < j.rate {
-            return self.after(Time::of_crossing(j, c));
-        }
         if j.rate < c.rate {
             return self.before(Time::of_crossing(c, j));
+        }
+        if c.rate < j.rate {
+            return self.after(Time::of_crossing(j, c));
         }
         if j.burst < c.burst {
             return None;
