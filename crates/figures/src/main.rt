@@ -145,10 +145,11 @@ fn show_joined(rt: &impl Print, words: &str, next: Server) -> io::Result<()> {
     let longest = servers::rated(1, 1_048_575);
     let answer = ServerAnswer::from(longest.join(next));
     let joined = answer.server.numbers();
-    println!(rt;
-        "{words} {} {} {} {}",
-        answer.code, joined.kind, joined.rate, joined.latency,
-    )
+    print!(rt; "{words}")?;
+    for number in [answer.code, joined.kind, joined.rate, joined.latency] {
+        print!(rt; " {number}")?;
+    }
+    println!(rt)
 }
 
 // {(3,20)} shaped by a link of rate 10 with frames of up to so many bits.
